@@ -51,7 +51,7 @@ EXCEPTIONS = {
     "topo::feature": JUDGED + "query::feature",
     "topo::known_feature": JUDGED + "refine::remove",
     "Topology::from_parts": JUDGED + "Topology::build",
-    "Topology::from_unmeasured_parts": JUDGED + "refine::remove",
+    "Topology::from_parts_without_bbox": JUDGED + "refine::remove",
     "tool::run": "is the command: tests/refused_memory.py",
 }
 MODULES = {

@@ -1,6 +1,6 @@
 //! Tests of `heal_arcs`: maps of which something is taken out, what is left of their arcs, and the lists
 //! of lines and rings. Expected indexes are worked out by hand.
-use heal_arcs::{Rejoined, rejoin};
+use heal_arcs::{HealedArcs, heal};
 use std::alloc::Global;
 use std::test::Fail;
 use worked_maps::{
@@ -115,14 +115,14 @@ const ROWS: &[Row] = &[
 ];
 
 /// Joins what is left of a row's map.
-fn rejoin_row(alloc: Global, row: &Row) -> Result<Rejoined, Fail> {
+fn rejoin_row(alloc: Global, row: &Row) -> Result<HealedArcs, Fail> {
     let whole = topology_of(alloc, &[row.whole])?;
     let ends = positions(alloc, row.ends)?;
-    Ok(rejoin(alloc, whole.arcs(), row.kept, &ends)?)
+    Ok(heal(alloc, whole.arcs(), row.kept, &ends)?)
 }
 
 /// Whether the new arcs are joined of those of the indexes, and there are no more.
-fn are_pieces(made: &Rejoined, lists: &[&[i64]]) -> bool {
+fn are_pieces(made: &HealedArcs, lists: &[&[i64]]) -> bool {
     for (number, indexes) in lists.iter().enumerate() {
         if !made
             .pieces(number)
@@ -135,12 +135,12 @@ fn are_pieces(made: &Rejoined, lists: &[&[i64]]) -> bool {
 }
 
 /// Whether the arcs that are joined again are those of the topology of what is left.
-fn are_arcs_of_left(alloc: Global, made: &Rejoined, left: Drawn) -> Result<bool, Fail> {
+fn are_arcs_of_left(alloc: Global, made: &HealedArcs, left: Drawn) -> Result<bool, Fail> {
     let left = topology_of(alloc, &[left])?;
     Ok(same_arcs(made.arcs(), left.arcs()))
 }
 
-fn becomes(alloc: Global, made: &Rejoined, list: &Become) -> Result<bool, Fail> {
+fn becomes(alloc: Global, made: &HealedArcs, list: &Become) -> Result<bool, Fail> {
     let (of, old, new) = list;
     let refs = refs_of(alloc, *old)?;
     let list = match of {
@@ -151,7 +151,7 @@ fn becomes(alloc: Global, made: &Rejoined, list: &Become) -> Result<bool, Fail> 
 }
 
 /// Whether the lists become what they say.
-fn become_lists(alloc: Global, made: &Rejoined, lists: &[Become]) -> Result<bool, Fail> {
+fn become_lists(alloc: Global, made: &HealedArcs, lists: &[Become]) -> Result<bool, Fail> {
     for list in lists {
         if !becomes(alloc, made, list)? {
             return Ok(false);

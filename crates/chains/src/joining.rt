@@ -64,7 +64,7 @@ fn joined_to(old: Option<(Pos, Pos)>, to: Pos) -> (Pos, Pos)
     }
 }
 
-fn note(
+fn link(
     links: &mut BTreeMap<Pos, (Pos, Pos)>,
     stops: &StopSet,
     at: Pos,
@@ -91,8 +91,8 @@ fn links_of(
     let mut links = BTreeMap::new(alloc);
     for segment in segments {
         let (lesser, greater) = segment.ends();
-        note(&mut links, stops, lesser, greater)?;
-        note(&mut links, stops, greater, lesser)?;
+        link(&mut links, stops, lesser, greater)?;
+        link(&mut links, stops, greater, lesser)?;
     }
     Ok(links)
 }

@@ -94,7 +94,7 @@ struct RecentVertices {
 
 impl RecentVertices {
     /// Puts a position last, unless it is where the table of recent ones points.
-    fn note(&mut self, position: Pos) -> Result<(), AllocError>
+    fn insert(&mut self, position: Pos) -> Result<(), AllocError>
         ensures { OnOk result (HaveSame self.new.positions.items (self.old.positions.items ++ position ∷ [])) }
     {
         if let Some(place) = self.recent.place(position) {
@@ -111,7 +111,7 @@ impl RecentVertices {
 }
 
 /// The positions, of which one that comes again is mostly left out.
-pub(crate) fn thin_out(alloc: Global, positions: &[Pos]) -> Result<Vec<Pos>, AllocError>
+pub(crate) fn dedup_recent(alloc: Global, positions: &[Pos]) -> Result<Vec<Pos>, AllocError>
     ensures { IfOk result (λ v. HaveSame v.items positions.now) }
 {
     let mut noted = RecentVertices {
@@ -119,7 +119,7 @@ pub(crate) fn thin_out(alloc: Global, positions: &[Pos]) -> Result<Vec<Pos>, All
         recent: Recent::for_positions(alloc, positions.len())?,
     };
     for position in positions {
-        noted.note(*position)?;
+        noted.insert(*position)?;
     }
     Ok(noted.positions)
 }

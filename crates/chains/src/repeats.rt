@@ -28,7 +28,7 @@ struct Repeats {
 
 impl Repeats {
     /// Notes the vertex of one more visit.
-    fn note(&mut self, vertex: Pos)
+    fn insert(&mut self, vertex: Pos)
         ensures { IsNoted vertex self.old self.new }
     {
         if self.met.may_hold(vertex) {
@@ -39,20 +39,20 @@ impl Repeats {
     }
 
     /// Notes the vertices of places between two others.
-    fn note_inner(&mut self, inner: &[&[Pos; 3]])
+    fn add_inner(&mut self, inner: &[&[Pos; 3]])
         ensures { (all later : List Visiting) → AreNoted self.old all (gathered visits_at inner.now ++ later) → AreNoted self.new all later }
     {
         for window in inner {
-            self.note(visit_within(window).vertex);
+            self.insert(visit_within(window).vertex);
         }
     }
 
     /// Notes the vertices of visits.
-    fn note_visits(&mut self, visits: &[Visit])
+    fn add_visits(&mut self, visits: &[Visit])
         ensures { (all later : List Visiting) → AreNoted self.old all (visits.now ++ later) → AreNoted self.new all later }
     {
         for visit in visits {
-            self.note(visit.vertex);
+            self.insert(visit.vertex);
         }
     }
 
@@ -65,8 +65,8 @@ impl Repeats {
             met: PositionFilter::clear(alloc, count / MET_EACH)?,
             again: PositionFilter::clear(alloc, count / AGAIN_EACH)?,
         };
-        repeats.note_inner(inner);
-        repeats.note_visits(seams);
+        repeats.add_inner(inner);
+        repeats.add_visits(seams);
         Ok(repeats)
     }
 }

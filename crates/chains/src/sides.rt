@@ -10,7 +10,7 @@ use grid::pos::Pos;
 use std::alloc::{AllocError, Global};
 
 /// Puts the segment between two positions behind the others.
-fn note_segment(segments: &mut Vec<Segment>, a: Pos, b: Pos) -> Result<(), AllocError>
+fn add_segment(segments: &mut Vec<Segment>, a: Pos, b: Pos) -> Result<(), AllocError>
     ensures { OnOk result ((u v : Pos) → AmongSegments u v segments.new.items ↔ (AmongSegments u v segments.old.items ⊎ Joins a b u v)) }
 {
     let Some(segment) = Segment::new(a, b) else {
@@ -21,7 +21,7 @@ fn note_segment(segments: &mut Vec<Segment>, a: Pos, b: Pos) -> Result<(), Alloc
 }
 
 /// Puts the segments of an arc behind the others.
-fn note_arc(segments: &mut Vec<Segment>, arc: &[Pos]) -> Result<(), AllocError>
+fn add_arc(segments: &mut Vec<Segment>, arc: &[Pos]) -> Result<(), AllocError>
     ensures { OnOk result ((u v : Pos) → AmongSegments u v segments.new.items ↔ (AmongSegments u v segments.old.items ⊎ SidesOf arc.now u v)) }
 {
     let Some((first, others)) = arc.split_first() else {
@@ -29,13 +29,13 @@ fn note_arc(segments: &mut Vec<Segment>, arc: &[Pos]) -> Result<(), AllocError>
     };
     let mut here = *first;
     for next in others {
-        note_segment(segments, here, *next)?;
+        add_segment(segments, here, *next)?;
         here = *next;
     }
     Ok(())
 }
 
-fn note_number(
+fn add_numbered_arc(
     segments: &mut Vec<Segment>,
     arcs: &ArcTable,
     number: usize,
@@ -43,7 +43,7 @@ fn note_number(
     ensures { OnOk result ((u v : Pos) → AmongSegments u v segments.new.items ↔ (AmongSegments u v segments.old.items ⊎ SidesOf (arc_at arcs.now.arcs number) u v)) }
 {
     match arcs.arc(number) {
-        Some(arc) => note_arc(segments, arc),
+        Some(arc) => add_arc(segments, arc),
         None => Ok(()),
     }
 }
@@ -58,7 +58,7 @@ pub fn segments_of(
 {
     let mut segments = Vec::new(alloc);
     for number in chosen {
-        note_number(&mut segments, arcs, *number)?;
+        add_numbered_arc(&mut segments, arcs, *number)?;
     }
     Ok(segments)
 }

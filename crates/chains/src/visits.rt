@@ -24,7 +24,7 @@ ghost use Rattle.theory.specs.Topology.{forms_of, lines_in, rings_in};
 
 use crate::arcs_box::Extent;
 use crate::marking::is_marked;
-use crate::recent::{Recent, count_in_map, count_in_marked_arcs, kept_place, thin_out};
+use crate::recent::{Recent, count_in_map, count_in_marked_arcs, dedup_recent, kept_place};
 use crate::repeats::find_repeated;
 use crate::table::ArcTable;
 use crate::vertex_filter::{VertexFilter, inside};
@@ -97,7 +97,7 @@ fn is_same_visit(a: &[Pos; 3], b: &[Pos; 3]) -> bool
 }
 
 /// Whether the visit of a place is noted at an index.
-fn stands_at(inner: &[&[Pos; 3]], index: usize, window: &[Pos; 3]) -> bool
+fn is_same_at(inner: &[&[Pos; 3]], index: usize, window: &[Pos; 3]) -> bool
     ensures { IsTrue result ↔ (slice_get (map_list visits_at inner.now) index ≡ Some (inner_of window.now)) }
 {
     if index < inner.len() {
@@ -126,11 +126,11 @@ impl<'a> VisitsSeen<'a> {
         ensures { IfSome result (λ i. slice_get (map_list visits_at self.now.inner.items) i ≡ Some (inner_of window.now)) }
     {
         let before = self.last_found.saturating_sub(1);
-        if stands_at(&self.inner, before, window) {
+        if is_same_at(&self.inner, before, window) {
             return Some(before);
         }
         let after = self.last_found.saturating_add(1);
-        if stands_at(&self.inner, after, window) {
+        if is_same_at(&self.inner, after, window) {
             return Some(after);
         }
         None
@@ -138,7 +138,7 @@ impl<'a> VisitsSeen<'a> {
 
     /// Notes the visit of a place, unless it is beside the last that was found, or where the table of
     /// recent visits points.
-    fn note(&mut self, window: &'a [Pos; 3]) -> Result<(), AllocError>
+    fn insert(&mut self, window: &'a [Pos; 3]) -> Result<(), AllocError>
         ensures ends { self.new.ends.items ≡ self.old.ends.items }
         ensures visits { OnOk result (HaveSame (visits_noted self.new) (visits_noted self.old ++ inner_of window.now)) }
     {
@@ -148,7 +148,7 @@ impl<'a> VisitsSeen<'a> {
         }
         if let Some(place) = self.recent.place(window[1]) {
             let index = *place as usize;
-            if stands_at(&self.inner, index, window) {
+            if is_same_at(&self.inner, index, window) {
                 self.last_found = index;
                 return Ok(());
             }
@@ -180,7 +180,7 @@ impl<'a> VisitsSeen<'a> {
     {
         let mut left = line;
         while let Some((window, _)) = left.split_first_chunk::<3>() {
-            self.note(window)?;
+            self.insert(window)?;
             left = &left[1..];
         }
         Ok(())
@@ -424,7 +424,7 @@ impl VisitIndex {
         } = seen;
         let mut repeats = find_repeated(alloc, &inner, &seams)?;
         repeats.sort_unstable_by_key(|v| v.vertex);
-        let mut junctions = thin_out(alloc, &ends)?;
+        let mut junctions = dedup_recent(alloc, &ends)?;
         keep_clashes(&mut junctions, &repeats)?;
         junctions.sort_unstable();
         let bits = PositionFilter::of(alloc, &junctions)?;

@@ -10,18 +10,18 @@ use Rattle.topo.specs.contracts.geom.GeomOrd.TheImpl as geometry_order
 use Rattle.topo.specs.declared.geom.Geom.{Geom}
 use Rattle.compare.specs.Keyed.{keys_in}
 use Rattle.compare.specs.declared.index.Index.{Index}
-use Rattle.compare.specs.declared.index.Standing.{Standing}
-use Rattle.compare.specs.declared.index.Standing.TheVariants.{Once, Again}
+use Rattle.compare.specs.declared.index.Occurrence.{Occurrence}
+use Rattle.compare.specs.declared.index.Occurrence.TheVariants.{Single, Repeated}
 
 -- the id of a feature that has none
 abbrev pub id_none : Id
 id_none = ids.None
 
 -- the number where it is the only one
-abbrev pub once : Option Standing → Option ℕ
+abbrev pub once : Option Occurrence → Option ℕ
 once None = None
-once (Some (Once k)) = Some k
-once (Some Again) = None
+once (Some (Single k)) = Some k
+once (Some Repeated) = None
 
 -- the orders of what is borrowed
 abbrev pub lent_cmp : Bor Geom → Bor Geom → Ordering
@@ -45,23 +45,23 @@ abbrev pub Knows : List Geom → ℕ → tree.BTreeMap (Bor Geom) ℕ → Type 0
 Knows gs n m = (q : Bor Geom) → Found (tree.get lent_cmp m q) ↔ StandsBelow gs n q.now
 
 -- where a key occurs once it is at n, by where it stood below
-abbrev pub standing_after : ℕ → Option Standing → Standing
-standing_after n None = Once n
-standing_after n (Some s) = Again
+abbrev pub occurrence_after : ℕ → Option Occurrence → Occurrence
+occurrence_after n None = Single n
+occurrence_after n (Some s) = Repeated
 
 -- where the key is among the first n
-abbrev pub StandsAs : List Id → ℕ → Id → Option Standing → Type 0
+abbrev pub StandsAs : List Id → ℕ → Id → Option Occurrence → Type 0
 StandsAs ks n x None = (j : ℕ) → j < n → ¬ (slice_get ks j ≡ Some x)
-StandsAs ks n x (Some (Once k)) = (k < n) × (slice_get ks k ≡ Some x) × ((j : ℕ) → j < n → slice_get ks j ≡ Some x → j ≡ k)
-StandsAs ks n x (Some Again) = (j : ℕ) × (k : ℕ) × (¬ (j ≡ k)) × (slice_get ks j ≡ Some x) × (slice_get ks k ≡ Some x)
+StandsAs ks n x (Some (Single k)) = (k < n) × (slice_get ks k ≡ Some x) × ((j : ℕ) → j < n → slice_get ks j ≡ Some x → j ≡ k)
+StandsAs ks n x (Some Repeated) = (j : ℕ) × (k : ℕ) × (¬ (j ≡ k)) × (slice_get ks j ≡ Some x) × (slice_get ks k ≡ Some x)
 
 -- the table has where each key is among the first n
-abbrev pub standings_of : List Id → ℕ → tree.BTreeMap (Bor Id) Standing → Type 0
-standings_of ks n m = (q : Bor Id) → StandsAs ks n q.now (tree.get lent_id_cmp m q)
+abbrev pub occurrences_of : List Id → ℕ → tree.BTreeMap (Bor Id) Occurrence → Type 0
+occurrences_of ks n m = (q : Bor Id) → StandsAs ks n q.now (tree.get lent_id_cmp m q)
 
 -- the index of a list of geometries with their keys: which geometries there are, and where each key occurs
 pub record IsIndexOf (gs : List Geom) (ks : List Id) (i : Index) : Type 0 where
   pub lends : i.geometries.now ≡ gs
   pub keys : keys_in i.keys ≡ ks
   pub knows : Knows gs (length gs) i.numbers
-  pub stand : standings_of ks (length ks) i.standings
+  pub stand : occurrences_of ks (length ks) i.occurrences

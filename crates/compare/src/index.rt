@@ -1,6 +1,6 @@
 //! The geometries of a layer, found by what they are and by their keys.
 ghost use Rattle.compare.specs.Placed.{IsOnly};
-ghost use Rattle.compare.specs.Indexed.{IsIndexOf, Knows, id_none, lent_id_cmp, once, standing_after, standings_of};
+ghost use Rattle.compare.specs.Indexed.{IsIndexOf, Knows, id_none, lent_id_cmp, once, occurrence_after, occurrences_of};
 ghost use Rattle.compare.specs.Keyed.{keys_in};
 ghost use Rattle.std.specs.BTreeMap as tree;
 ghost use Rattle.std.specs.Prelude.{◌≡◌, ◌↔◌, ◌+◌, ◌<◌, IfNone, IfOk, IfSome, IsTrue, List, OnOk, Some, length, slice_get, ℕ};
@@ -16,11 +16,11 @@ use topo::Geom;
 
 /// Where a key is.
 #[derive(Clone, Copy, PartialEq, Eq, Debug)]
-pub(crate) enum Standing {
+pub(crate) enum Occurrence {
     /// Once, at this number.
-    Once(usize),
+    Single(usize),
     /// More than once.
-    Again,
+    Repeated,
 }
 
 /// The geometries of a layer, which of them there are, and where their keys are.
@@ -29,11 +29,11 @@ pub(crate) struct Index<'a> {
     pub(crate) geometries: &'a [Geom],
     pub(crate) keys: Keys<'a>,
     numbers: BTreeMap<&'a Geom, usize>,
-    standings: BTreeMap<&'a Id, Standing>,
+    occurrences: BTreeMap<&'a Id, Occurrence>,
 }
 
 /// Notes that a geometry is at a number.
-fn note_geometry<'a>(
+fn add_geometry<'a>(
     numbers: &mut BTreeMap<&'a Geom, usize>,
     geometry: &'a Geom,
     number: usize,
@@ -50,46 +50,50 @@ fn numbers_of(alloc: Global, geometries: &[Geom]) -> Result<BTreeMap<&Geom, usiz
 {
     let mut numbers = BTreeMap::new(alloc);
     for number in 0..geometries.len() {
-        note_geometry(&mut numbers, &geometries[number], number)?;
+        add_geometry(&mut numbers, &geometries[number], number)?;
     }
     Ok(numbers)
 }
 
 /// Where a key is, once it is at a number too.
-fn standing_with<'a>(standings: &BTreeMap<&'a Id, Standing>, key: &'a Id, number: usize) -> Standing
-    ensures { result ≡ standing_after number (tree.get lent_id_cmp standings.now key.entry) }
+fn occurrence_with<'a>(
+    occurrences: &BTreeMap<&'a Id, Occurrence>,
+    key: &'a Id,
+    number: usize,
+) -> Occurrence
+    ensures { result ≡ occurrence_after number (tree.get lent_id_cmp occurrences.now key.entry) }
 {
-    match standings.get(&key) {
-        Some(_) => Standing::Again,
-        None => Standing::Once(number),
+    match occurrences.get(&key) {
+        Some(_) => Occurrence::Repeated,
+        None => Occurrence::Single(number),
     }
 }
 
 /// Notes that a key is at a number.
-fn note_key<'a>(
-    standings: &mut BTreeMap<&'a Id, Standing>,
+fn add_key<'a>(
+    occurrences: &mut BTreeMap<&'a Id, Occurrence>,
     key: &'a Id,
     number: usize,
 ) -> Result<(), AllocError>
-    ensures { OnOk result ((ks : List ids.Id) → slice_get ks number ≡ Some key.now → standings_of ks number standings.old → standings_of ks (number + 1) standings.new) }
+    ensures { OnOk result ((ks : List ids.Id) → slice_get ks number ≡ Some key.now → occurrences_of ks number occurrences.old → occurrences_of ks (number + 1) occurrences.new) }
 {
-    let standing = standing_with(standings, key, number);
-    standings.insert(key, standing)?;
+    let occurrence = occurrence_with(occurrences, key, number);
+    occurrences.insert(key, occurrence)?;
     Ok(())
 }
 
 /// The keys, each with where it is.
-fn standings_in<'a>(
+fn occurrences_in<'a>(
     alloc: Global,
     keys: &Keys<'a>,
-) -> Result<BTreeMap<&'a Id, Standing>, AllocError>
-    ensures { IfOk result (λ m. standings_of (keys_in keys.now) (length (keys_in keys.now)) m) }
+) -> Result<BTreeMap<&'a Id, Occurrence>, AllocError>
+    ensures { IfOk result (λ m. occurrences_of (keys_in keys.now) (length (keys_in keys.now)) m) }
 {
-    let mut standings = BTreeMap::new(alloc);
+    let mut occurrences = BTreeMap::new(alloc);
     for number in 0..keys.len() {
-        note_key(&mut standings, keys.at(number), number)?;
+        add_key(&mut occurrences, keys.at(number), number)?;
     }
-    Ok(standings)
+    Ok(occurrences)
 }
 
 /// Whether there is no key.
@@ -112,12 +116,12 @@ impl<'a> Index<'a> {
         ensures { IfOk result (λ i. IsIndexOf geometries.now (keys_in keys.entry) i) }
     {
         let numbers = numbers_of(alloc, geometries)?;
-        let standings = standings_in(alloc, &keys)?;
+        let occurrences = occurrences_in(alloc, &keys)?;
         Ok(Index {
             geometries,
             keys,
             numbers,
-            standings,
+            occurrences,
         })
     }
 
@@ -130,11 +134,11 @@ impl<'a> Index<'a> {
 
     /// The number at which a key is, where it occurs once.
     fn place_of(&self, key: &'a Id) -> Option<usize>
-        ensures { result ≡ once (tree.get lent_id_cmp self.now.standings key.entry) }
+        ensures { result ≡ once (tree.get lent_id_cmp self.now.occurrences key.entry) }
     {
-        match self.standings.get(&key) {
-            Some(Standing::Once(number)) => Some(*number),
-            Some(Standing::Again) | None => None,
+        match self.occurrences.get(&key) {
+            Some(Occurrence::Single(number)) => Some(*number),
+            Some(Occurrence::Repeated) | None => None,
         }
     }
 

@@ -5,7 +5,7 @@ use Rattle.std.specs.Ordering.{is_eq, nat_cmp}
 use Rattle.theory.specs.ArcNumbers.{ArcRef, backwards}
 use Rattle.theory.specs.Refinement.{pieces_at, pieces_of_used}
 use Rattle.theory.specs.Healing.{AreStarts, Starts}
-use Rattle.heal_arcs.specs.ByUse.{same_way}
+use Rattle.heal_arcs.specs.ArcUseMap.{same_way}
 use Rattle.heal_arcs.proofs.ByUses.{same_use}
 use Rattle.heal_arcs.specs.Starts.{no_starts, starts_by, with_arcs, with_head, with_start}
 

@@ -8,7 +8,7 @@ use Rattle.std.specs.declared.cmp.Ordering.{Ordering}
 use Rattle.std.specs.declared.cmp.Ordering.TheVariants.{Less, Equal, Greater}
 use Rattle.theory.specs.ArcNumbers.{ArcRef}
 use Rattle.lines.proofs.Positions.{true_false}
-use Rattle.heal_arcs.specs.ByUse.{noted_at, same_way, with_noted}
+use Rattle.heal_arcs.specs.ArcUseMap.{value_at, same_way, with_noted}
 
 tied : (a b : ℕ) → is_eq (nat_cmp a b) ≡ true → a ≡ b
 tied a b = go (nat_cmp a b) refl
@@ -38,19 +38,19 @@ same_number k = ap is_eq (tied_itself nat_cmp_total k)
 
 module _ {T : Type 0} where
   -- nothing is noted at the places that are added
-  pub noted_more : (l : List (Option T)) (n k : ℕ) → noted_at (l ++ replicate n None) k ≡ noted_at l k
+  pub noted_more : (l : List (Option T)) (n k : ℕ) → value_at (l ++ replicate n None) k ≡ value_at l k
   noted_more [] zero k = refl
   noted_more [] (suc n) zero = refl
   noted_more [] (suc n) (suc k) = noted_more [] n k
   noted_more (o ∷ l) n zero = refl
   noted_more (o ∷ l) n (suc k) = noted_more l n k
 
-  set_same : (l : List (Option T)) (place : ℕ) (o : Option T) → place < length l → noted_at (slice_set l place o) place ≡ o
+  set_same : (l : List (Option T)) (place : ℕ) (o : Option T) → place < length l → value_at (slice_set l place o) place ≡ o
   set_same [] place o h = absurd (omega (arith, h))
   set_same (x ∷ l) zero o h = refl
   set_same (x ∷ l) (suc place) o h = set_same l place o (omega (arith, h))
 
-  set_else : (l : List (Option T)) (place : ℕ) (o : Option T) (k : ℕ) → ¬ (place ≡ k) → noted_at (slice_set l place o) k ≡ noted_at l k
+  set_else : (l : List (Option T)) (place : ℕ) (o : Option T) (k : ℕ) → ¬ (place ≡ k) → value_at (slice_set l place o) k ≡ value_at l k
   set_else [] place o k n = refl
   set_else (x ∷ l) zero o zero n = absurd (n refl)
   set_else (x ∷ l) zero o (suc k) n = refl
@@ -59,27 +59,27 @@ module _ {T : Type 0} where
 
   -- a value is noted at a place, and the others stay
   pub noted_set : (l : List (Option T)) (place : ℕ) (o : Option T) (k : ℕ) → place < length l →
-      noted_at (slice_set l place o) k ≡ cond (is_eq (nat_cmp place k)) o (noted_at l k)
+      value_at (slice_set l place o) k ≡ cond (is_eq (nat_cmp place k)) o (value_at l k)
   noted_set l place o k h = go (is_eq (nat_cmp place k)) refl
     where
-      go : (b : Bool) → is_eq (nat_cmp place k) ≡ b → noted_at (slice_set l place o) k ≡ cond b o (noted_at l k)
-      go true e = subst (λ n. noted_at (slice_set l place o) n ≡ o) (tied place k e) (set_same l place o h)
+      go : (b : Bool) → is_eq (nat_cmp place k) ≡ b → value_at (slice_set l place o) k ≡ cond b o (value_at l k)
+      go true e = subst (λ n. value_at (slice_set l place o) n ≡ o) (tied place k e) (set_same l place o h)
       go false e = set_else l place o k (λ f. true_false (is_eq (nat_cmp k k)) (same_number k) (subst (λ n. is_eq (nat_cmp n k) ≡ false) f e))
 
   -- nothing is noted at a place that is not there
-  pub noted_missing : (l : List (Option T)) (k : ℕ) → slice_get l k ≡ None → noted_at l k ≡ None
+  pub noted_missing : (l : List (Option T)) (k : ℕ) → slice_get l k ≡ None → value_at l k ≡ None
   noted_missing [] k e = refl
   noted_missing (o ∷ l) zero e = absurd cc
   noted_missing (o ∷ l) (suc k) e = noted_missing l k e
 
-  pub noted_there : (l : List (Option T)) (k : ℕ) (o : Option T) → slice_get l k ≡ Some o → noted_at l k ≡ o
+  pub noted_there : (l : List (Option T)) (k : ℕ) (o : Option T) → slice_get l k ≡ Some o → value_at l k ≡ o
   noted_there [] k o e = absurd cc
   noted_there (x ∷ l) zero o e = cc
   noted_there (x ∷ l) (suc k) o e = noted_there l k o e
 
   -- places are added up to one
-  pub noted_reached : (l new : List (Option T)) (n more k : ℕ) → length l ≤ n → new ≡ take n l ++ replicate more None → noted_at new k ≡ noted_at l k
-  noted_reached l new n more k h e = ap (λ w. noted_at w k) (e ∙ ap (λ w. w ++ replicate more None) (take_all n l h)) ∙ noted_more l more k
+  pub noted_reached : (l new : List (Option T)) (n more k : ℕ) → length l ≤ n → new ≡ take n l ++ replicate more None → value_at new k ≡ value_at l k
+  noted_reached l new n more k h e = ap (λ w. value_at w k) (e ∙ ap (λ w. w ++ replicate more None) (take_all n l h)) ∙ noted_more l more k
 
   -- one more is noted, of a use in either direction
   set_one : (u r c : Bool) (one x y against ahead : Option T) → x ≡ cond u (cond c one against) against → y ≡ cond u ahead (cond c one ahead) →
@@ -90,16 +90,16 @@ module _ {T : Type 0} where
   set_one false false c one x y against ahead e f = f
 
   pub set_against : (ahead against new : List (Option T)) (used : ArcRef) (v : T) → used.reversed ≡ true →
-      ((k : ℕ) → noted_at new k ≡ cond (is_eq (nat_cmp used.arc k)) (Some v) (noted_at against k)) → (q : ArcRef) →
-      cond q.reversed (noted_at new q.arc) (noted_at ahead q.arc) ≡ with_noted used v (λ r. cond r.reversed (noted_at against r.arc) (noted_at ahead r.arc)) q
+      ((k : ℕ) → value_at new k ≡ cond (is_eq (nat_cmp used.arc k)) (Some v) (value_at against k)) → (q : ArcRef) →
+      cond q.reversed (value_at new q.arc) (value_at ahead q.arc) ≡ with_noted used v (λ r. cond r.reversed (value_at against r.arc) (value_at ahead r.arc)) q
   set_against ahead against new used v w e q =
-      rw w (set_one true q.reversed (is_eq (nat_cmp used.arc q.arc)) (Some v) (noted_at new q.arc) (noted_at ahead q.arc) (noted_at against q.arc) (noted_at ahead q.arc) (e q.arc) refl)
+      rw w (set_one true q.reversed (is_eq (nat_cmp used.arc q.arc)) (Some v) (value_at new q.arc) (value_at ahead q.arc) (value_at against q.arc) (value_at ahead q.arc) (e q.arc) refl)
 
   pub set_ahead : (ahead against new : List (Option T)) (used : ArcRef) (v : T) → used.reversed ≡ false →
-      ((k : ℕ) → noted_at new k ≡ cond (is_eq (nat_cmp used.arc k)) (Some v) (noted_at ahead k)) → (q : ArcRef) →
-      cond q.reversed (noted_at against q.arc) (noted_at new q.arc) ≡ with_noted used v (λ r. cond r.reversed (noted_at against r.arc) (noted_at ahead r.arc)) q
+      ((k : ℕ) → value_at new k ≡ cond (is_eq (nat_cmp used.arc k)) (Some v) (value_at ahead k)) → (q : ArcRef) →
+      cond q.reversed (value_at against q.arc) (value_at new q.arc) ≡ with_noted used v (λ r. cond r.reversed (value_at against r.arc) (value_at ahead r.arc)) q
   set_ahead ahead against new used v w e q =
-      rw w (set_one false q.reversed (is_eq (nat_cmp used.arc q.arc)) (Some v) (noted_at against q.arc) (noted_at new q.arc) (noted_at against q.arc) (noted_at ahead q.arc) refl (e q.arc))
+      rw w (set_one false q.reversed (is_eq (nat_cmp used.arc q.arc)) (Some v) (value_at against q.arc) (value_at new q.arc) (value_at against q.arc) (value_at ahead q.arc) refl (e q.arc))
 
   -- what is noted of a, and of others
   pub noted_here : (a : ArcRef) (v : T) (s : ArcRef → Option T) → with_noted a v s a ≡ Some v

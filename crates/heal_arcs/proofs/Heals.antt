@@ -33,7 +33,7 @@ use Rattle.chains.specs.Turning.{least_place}
 use Rattle.chains.proofs.TurnedLists.{turned_at}
 use Rattle.heal_arcs.specs.Choosing.{kept_numbers}
 use Rattle.heal_arcs.specs.HealedArcs.{begun_at, chain_by, directed, from_least, goes_round, is_there, list_by, list_of_run, piece_by, piece_of_run, put_all, run_along}
-use Rattle.heal_arcs.specs.PseudoNodes.{Begins, IsTold, partner_in}
+use Rattle.heal_arcs.specs.PseudoNodes.{Begins, IsVerdict, partner_in}
 use Rattle.heal_arcs.specs.Parts.{RejoinedParts}
 use Rattle.heal_arcs.specs.Healing.{IsLeftBy, IsRejoinedOf}
 use Rattle.heal_arcs.specs.Walks.{ArePaired, AreRuns, IsRun, IsWalked}
@@ -360,7 +360,7 @@ module _ (g u : Geometry Pos) (old : Arcs) (marks : List Bool) (ending : List Po
 
 -- in the form of the code
 module _ (old : Arcs) (marks : List Bool) (ending : List Pos) (numbers slice : List ℕ) (chosen : numbers ≡ kept_numbers 0 marks) (lent : slice ≡ numbers)
-    (m : PseudoNodes) (met : Distinct slice → (v : Pos) (a : ArcRef) → Begins old.arcs v slice a → IsTold (Has v ending) (Begins old.arcs v slice) (partner_in m) a)
+    (m : PseudoNodes) (met : Distinct slice → (v : Pos) (a : ArcRef) → Begins old.arcs v slice a → IsVerdict (Has v ending) (Begins old.arcs v slice) (partner_in m) a)
     (runs : List (List ArcRef)) (are : ArePaired marks (partner_in m) → AreRuns marks (partner_in m) runs)
     (ps : List Piece) (ls : List (List ArcRef)) (pieces : ps ≡ map (piece_of_run old.arcs (partner_in m)) runs) (lists : ls ≡ map (list_of_run old.arcs (partner_in m)) runs)
     (t : Arcs) (once : AreSortedOnce list_cmp (map chain_of ps) t.arcs) (loops : AreLoopsOf ps t.loops)
@@ -369,7 +369,7 @@ module _ (old : Arcs) (marks : List Bool) (ending : List Pos) (numbers slice : L
   rejoin_told : (g u : Geometry Pos) → IsLeftBy g u old marks ending → IsRejoinedOf g u old result
   rejoin_told g u left =
       let met' : AreTold old marks ending m =
-      subst (λ w. Distinct w → (v : Pos) (a : ArcRef) → Begins old.arcs v w a → IsTold (Has v ending) (Begins old.arcs v w) (partner_in m) a) (lent ∙ chosen) met (numbers_once 0 marks) in
+      subst (λ w. Distinct w → (v : Pos) (a : ArcRef) → Begins old.arcs v w a → IsVerdict (Has v ending) (Begins old.arcs v w) (partner_in m) a) (lent ∙ chosen) met (numbers_once 0 marks) in
       let same : made ≡ put_all (map (located t.arcs) (map (piece_of_run old.arcs (partner_in m)) runs)) (map (list_of_run old.arcs (partner_in m)) runs) (replicate (length t.arcs) []) =
       put ∙ (λ i. put_all ((lent_refs ∙ numbered ∙ ap (map (located t.arcs)) pieces) i) (lists i) (replicate (count i) [])) in
       subst (IsRejoinedOf g u old) (sym (is ∙ (λ i. record { arcs = t; pieces = same i })))
@@ -380,7 +380,7 @@ module _ (old : Arcs) (marks : List Bool) (ending : List Pos) (numbers slice : L
   rejoin_count =
       subst (λ r. length r.pieces ≡ length r.arcs.arcs) (sym is) (ap length put ∙ length_put those ls (replicate n []) ∙ length_same n [] ∙ count)
 
-  -- both that rejoin promises
+  -- both that heal promises
   pub rejoin_is : ((g u : Geometry Pos) → IsLeftBy g u old marks ending → IsRejoinedOf g u old result) × (length result.pieces ≡ length result.arcs.arcs)
   rejoin_is = (rejoin_told, rejoin_count)
 

@@ -13,15 +13,15 @@ use Rattle.lines.proofs.Positions.{true_false}
 use Rattle.lines.proofs.SortedLists.{Has-permutation}
 use Rattle.chains.specs.Among.{among}
 use Rattle.chains.proofs.Among.{among_has, has_among}
-use Rattle.heal_arcs.specs.ByUse.{with_noted}
+use Rattle.heal_arcs.specs.ArcUseMap.{with_noted}
 use Rattle.heal_arcs.specs.declared.pseudo_nodes.ArcEnd.{ArcEnd}
-use Rattle.heal_arcs.specs.PseudoNodes.{AreGrouped, Begins, IsTold, all_ends, end_at, paired, used_at, vertex_of, with_pair}
+use Rattle.heal_arcs.specs.PseudoNodes.{AreGrouped, Begins, IsVerdict, all_ends, end_at, paired, used_at, vertex_of, with_pair}
 use Rattle.heal_arcs.proofs.ByUses.{noted_here, noted_other}
 use Rattle.heal_arcs.proofs.PartnersMeet.{begins_end, end_cmp, ends_begin, sorted_grouped}
 
 -- what is told of those that meet holds of those that meet as well by another word
 pub told_alike : (S T : Type 0) (H G : ArcRef → Type 0) (f : ArcRef → Option ArcRef) (a : ArcRef) → (S → T) → (T → S) → ((p : ArcRef) → H p → G p) → ((p : ArcRef) → G p → H p) →
-    IsTold S H f a → IsTold T G f a
+    IsVerdict S H f a → IsVerdict T G f a
 told_alike S T H G f a st ts hg gh (inl s) = inl (record {
   none = s.none;
   why = elim s.why [
@@ -88,7 +88,7 @@ module _ (stops : List Pos) (ends : List ArcEnd) where
   Meet v b = Has (end_at v b) ends
 
   abbrev pub Told : (ArcRef → Option ArcRef) → Pos → ArcRef → Type 0
-  Told f v a = IsTold (Has v stops) (Meet v) f a
+  Told f v a = IsVerdict (Has v stops) (Meet v) f a
 
   -- what is noted of the ends at one vertex
   group_told : (first : ArcEnd) (here : List ArcEnd) (f g : ArcRef → Option ArcRef) → ((q : ArcRef) → g q ≡ with_pair stops first here f q) →
@@ -277,8 +277,8 @@ module _ (stops : List Pos) (ends : List ArcEnd) where
 -- what is told of the sorted ends is told of the used arcs that begin at a vertex
 pub meeting_told : (arcs : List (List Pos)) (ks : List ℕ) (ending stops : List Pos) (l slice : List ArcEnd) (f : ArcRef → Option ArcRef) → ((p : Pos) → Has p stops ↔ Has p ending) →
     IsPermutation (all_ends arcs ks) l → IsSorted end_cmp l → slice ≡ l →
-    (AreGrouped slice → (v : Pos) (a : ArcRef) → Has (end_at v a) slice → IsTold (Has v stops) (λ b. Has (end_at v b) slice) f a) →
-    Distinct ks → (v : Pos) (a : ArcRef) → Begins arcs v ks a → IsTold (Has v ending) (Begins arcs v ks) f a
+    (AreGrouped slice → (v : Pos) (a : ArcRef) → Has (end_at v a) slice → IsVerdict (Has v stops) (λ b. Has (end_at v b) slice) f a) →
+    Distinct ks → (v : Pos) (a : ArcRef) → Begins arcs v ks a → IsVerdict (Has v ending) (Begins arcs v ks) f a
 meeting_told arcs ks ending stops l slice f alike p s e told once v a b =
     told_alike (Has v stops) (Has v ending) (λ q. Has (end_at v q) slice) (Begins arcs v ks) f a (alike v).0 (alike v).1 back to
     (told (subst AreGrouped (sym e) (sorted_grouped arcs ks l once p s)) v a (to a b))

@@ -18,7 +18,7 @@ use Rattle.theory.proofs.OneTopology.{along_chain}
 use Rattle.theory.proofs.HealingProved.{kept_arcs_tell, two_ends_meet}
 use Rattle.chains.specs.Arcs.{Arcs}
 use Rattle.heal_arcs.specs.Choosing.{kept_numbers}
-use Rattle.heal_arcs.specs.PseudoNodes.{ArePartners, Begins, IsTold, ThreeOf, partner_in}
+use Rattle.heal_arcs.specs.PseudoNodes.{ArePartners, Begins, IsVerdict, ThreeOf, partner_in}
 use Rattle.heal_arcs.specs.Healing.{IsLeftBy}
 use Rattle.heal_arcs.specs.Walks.{ArePaired, is_left}
 use Rattle.heal_arcs.specs.declared.pseudo_nodes.PseudoNodes.{PseudoNodes}
@@ -38,7 +38,7 @@ is_mark (b ∷ l) (suc k) e = is_mark l k e
 -- the meeting tells of each end of a marked arc where it goes on
 abbrev pub AreTold : Arcs → List Bool → List Pos → PseudoNodes → Type 0
 AreTold old marks ending m =
-    (v : Pos) (a : ArcRef) → Begins old.arcs v (kept_numbers 0 marks) a → IsTold (Has v ending) (Begins old.arcs v (kept_numbers 0 marks)) (partner_in m) a
+    (v : Pos) (a : ArcRef) → Begins old.arcs v (kept_numbers 0 marks) a → IsVerdict (Has v ending) (Begins old.arcs v (kept_numbers 0 marks)) (partner_in m) a
 
 module _ (g u : Geometry Pos) (old : Arcs) (marks : List Bool) (ending : List Pos) (left : IsLeftBy g u old marks ending) (m : PseudoNodes) (met : AreTold old marks ending m) where
   abbrev pub Kept : ℕ → Type 0
@@ -140,7 +140,7 @@ module _ (g u : Geometry Pos) (old : Arcs) (marks : List Bool) (ending : List Po
       let here : BeginsAt old.arcs v a = (q, al) in
       (v, at_vertex v here (met v a (begins v a k here)))
     where
-      at_vertex : (v : Pos) → BeginsAt old.arcs v a → IsTold (Has v ending) (Begins old.arcs v ks) P a → Meets a b v
+      at_vertex : (v : Pos) → BeginsAt old.arcs v a → IsVerdict (Has v ending) (Begins old.arcs v ks) P a → Meets a b v
       at_vertex v here (inl s) = absurd (let z : None ≡ Some b = sym s.none ∙ e in cc)
       at_vertex v here (inr (c, w)) =
           let same : c ≡ b = (let z : Some c ≡ Some b = sym w.there ∙ e in cc) in
@@ -179,7 +179,7 @@ module _ (g u : Geometry Pos) (old : Arcs) (marks : List Bool) (ending : List Po
       let here : BeginsAt old.arcs v a = (q, al) in
       (v, here, at_vertex v here (met v a (begins v a k here)))
     where
-      at_vertex : (v : Pos) → BeginsAt old.arcs v a → IsTold (Has v ending) (Begins old.arcs v ks) P a → JunctionOf g v
+      at_vertex : (v : Pos) → BeginsAt old.arcs v a → IsVerdict (Has v ending) (Begins old.arcs v ks) P a → JunctionOf g v
       at_vertex v here (inl s) = stopped a v k here s.why
       at_vertex v here (inr (c, w)) = absurd (let z : None ≡ Some c = sym e ∙ w.there in cc)
 

@@ -2,15 +2,15 @@
 use Rattle.std.specs.Prelude.{ℕ, Bool, true, false, cond, not, List, get_or, Option, Some, None}
 use Rattle.std.specs.Ordering.{is_eq, nat_cmp}
 use Rattle.theory.specs.ArcNumbers.{ArcRef}
-use Rattle.heal_arcs.specs.declared.by_use.ByUse.{ByUse}
+use Rattle.heal_arcs.specs.declared.by_use.ArcUseMap.{ArcUseMap}
 
 -- what is noted at a place; nothing behind the last
-abbrev pub noted_at : {T : Type 0} → List (Option T) → ℕ → Option T
-noted_at l k = get_or l k None
+abbrev pub value_at : {T : Type 0} → List (Option T) → ℕ → Option T
+value_at l k = get_or l k None
 
 -- what is noted of a used arc
-abbrev pub noted_of : {T : Type 0} → ByUse T → ArcRef → Option T
-noted_of b q = cond q.reversed (noted_at b.against.items q.arc) (noted_at b.ahead.items q.arc)
+abbrev pub noted_of : {T : Type 0} → ArcUseMap T → ArcRef → Option T
+noted_of b q = cond q.reversed (value_at b.against.items q.arc) (value_at b.ahead.items q.arc)
 
 -- whether both are used in one direction
 abbrev pub same_way : Bool → Bool → Bool

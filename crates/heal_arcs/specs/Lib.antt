@@ -1,7 +1,7 @@
 pub mod Parts
 pub mod ArcRuns
 pub mod Choosing
-pub mod ByUse
+pub mod ArcUseMap
 pub mod PseudoNodes
 pub mod Walks
 pub mod Healing

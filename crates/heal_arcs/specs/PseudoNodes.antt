@@ -6,7 +6,7 @@ use Rattle.theory.specs.Lists.{Has}
 use Rattle.grid.specs.declared.pos.Pos.{Pos}
 use Rattle.lines.specs.Turned.{position_cmp}
 use Rattle.chains.specs.Among.{among}
-use Rattle.heal_arcs.specs.ByUse.{noted_of, with_noted}
+use Rattle.heal_arcs.specs.ArcUseMap.{noted_of, with_noted}
 use Rattle.heal_arcs.specs.declared.pseudo_nodes.ArcEnd.{ArcEnd}
 use Rattle.heal_arcs.specs.declared.pseudo_nodes.PseudoNodes.{PseudoNodes}
 
@@ -95,8 +95,8 @@ pub record ArePartners (stop : Type 0) (H : ArcRef → Type 0) (partner : ArcRef
   pub only : (p : ArcRef) → H p → (p ≡ a) ⊎ (p ≡ b)
 
 -- the answer is right of a, which is among those that meet at a vertex: which of them goes on from it
-abbrev pub IsTold : Type 0 → (ArcRef → Type 0) → (ArcRef → Option ArcRef) → ArcRef → Type 0
-IsTold stop H partner a = IsStopped stop H partner a ⊎ ((b : ArcRef) × ArePartners stop H partner a b)
+abbrev pub IsVerdict : Type 0 → (ArcRef → Type 0) → (ArcRef → Option ArcRef) → ArcRef → Type 0
+IsVerdict stop H partner a = IsStopped stop H partner a ⊎ ((b : ArcRef) × ArePartners stop H partner a b)
 
 -- the one other used arc that begins where a used arc begins, if it goes on there
 abbrev pub partner_in : PseudoNodes → ArcRef → Option ArcRef

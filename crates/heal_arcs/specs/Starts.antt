@@ -3,16 +3,16 @@ use Rattle.std.specs.Prelude.{◌≡◌, ℕ, ◌+◌, true, false, cond, List, 
 use Rattle.std.specs.Option.{option_map}
 use Rattle.theory.specs.ArcNumbers.{ArcRef, backwards}
 use Rattle.theory.specs.Healing.{Starts, is_start}
-use Rattle.heal_arcs.specs.ByUse.{noted_of, with_noted}
-use Rattle.heal_arcs.specs.declared.start_table.Start.{Start}
-use Rattle.heal_arcs.specs.declared.start_table.StartTable.{StartTable}
+use Rattle.heal_arcs.specs.ArcUseMap.{noted_of, with_noted}
+use Rattle.heal_arcs.specs.declared.start_table.ArcStart.{ArcStart}
+use Rattle.heal_arcs.specs.declared.start_table.ArcStartTable.{ArcStartTable}
 
 -- the used new arc, and how many old ones it takes behind its first
-abbrev pub noted_start : Start → ArcRef × ℕ
+abbrev pub noted_start : ArcStart → ArcRef × ℕ
 noted_start s = (record { arc = s.arc; reversed = s.reversed }, s.others)
 
 -- what is noted of a used old arc
-abbrev pub starts_in : StartTable → Starts
+abbrev pub starts_in : ArcStartTable → Starts
 starts_in t q = option_map noted_start (noted_of t.starts q)
 
 -- the same, and this noted of a
@@ -38,7 +38,7 @@ abbrev pub starts_by : List (List ArcRef) → Starts
 starts_by pieces = with_arcs 0 no_starts pieces
 
 -- the table notes these
-abbrev pub AreNotedIn : StartTable → List (List ArcRef) → Type 0
+abbrev pub AreNotedIn : ArcStartTable → List (List ArcRef) → Type 0
 AreNotedIn t pieces = (q : ArcRef) → starts_in t q ≡ starts_by pieces q
 
 -- the place of the first used old arc that begins a new one; that behind the last where none does

@@ -11,8 +11,8 @@ ghost use Rattle.theory.specs.Arcs.{AreSortedOnce};
 ghost use Rattle.theory.specs.Geometry.{Geometry};
 
 use crate::choosing::numbers_of;
-use crate::healed_arcs::{JoinedArcs, by_numbers, joined_of};
-use crate::healed_lists::Rejoined;
+use crate::healed_arcs::{JoinedRuns, by_numbers, joined_of};
+use crate::healed_lists::HealedArcs;
 use crate::pseudo_nodes::PseudoNodes;
 use crate::walking::runs_of;
 use chains::table::ArcTable;
@@ -21,15 +21,15 @@ use grid::pos::Pos;
 use std::alloc::Global;
 
 /// The table of joined arcs, and the old arcs of each by its number, of which there were so many.
-fn from_joined(alloc: Global, joined: JoinedArcs, count: usize) -> Result<Rejoined, OutOfMemory>
+fn from_joined(alloc: Global, joined: JoinedRuns, count: usize) -> Result<HealedArcs, OutOfMemory>
     ensures arcs { IfOk result (λ r. AreSortedOnce list_cmp (map chain_of joined.pieces.items) r.arcs.arcs) }
     ensures loops { IfOk result (λ r. AreLoopsOf joined.pieces.items r.arcs.loops) }
     ensures pieces { IfOk result (λ r. r.pieces ≡ put_all (map (located r.arcs.arcs) joined.pieces.items) joined.lists.items (replicate (length r.arcs.arcs) [])) }
 {
-    let JoinedArcs { pieces, lists } = joined;
+    let JoinedRuns { pieces, lists } = joined;
     let (arcs, refs) = ArcTable::with_refs(alloc, pieces)?;
     let lists = by_numbers(alloc, &refs, lists, arcs.len())?;
-    Ok(Rejoined::from_parts(alloc, arcs, lists, count)?)
+    Ok(HealedArcs::from_parts(alloc, arcs, lists, count)?)
 }
 
 /// The arcs that are left of a table when some are taken out: those that stay, joined where no
@@ -38,12 +38,12 @@ fn from_joined(alloc: Global, joined: JoinedArcs, count: usize) -> Result<Rejoin
 ///
 /// # Errors
 /// Where memory is refused.
-pub fn rejoin(
+pub fn heal(
     alloc: Global,
     old: &ArcTable,
     kept: &[bool],
     ends: &[Pos],
-) -> Result<Rejoined, OutOfMemory>
+) -> Result<HealedArcs, OutOfMemory>
     ensures refined { IfOk result (λ r. (g u : Geometry Pos) → IsLeftBy g u old.now kept.now ends.now → IsRejoinedOf g u old.now r) }
     ensures pieces { IfOk result (λ r. length r.pieces ≡ length r.arcs.arcs) }
 {

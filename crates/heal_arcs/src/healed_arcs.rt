@@ -14,7 +14,7 @@ use std::alloc::{AllocError, Global};
 
 /// The new arcs of runs as pieces, and the old arcs of each.
 #[derive(Drop)]
-pub(crate) struct JoinedArcs {
+pub(crate) struct JoinedRuns {
     pub(crate) pieces: Vec<Piece>,
     pub(crate) lists: Vec<ArcRun>,
 }
@@ -147,7 +147,7 @@ fn add_joined(
     alloc: Global,
     arcs: &ArcTable,
     meeting: &PseudoNodes,
-    joined: &mut JoinedArcs,
+    joined: &mut JoinedRuns,
     run: ArcRun,
 ) -> Result<(), AllocError>
     ensures pieces { OnOk result (joined.new.pieces.items ≡ joined.old.pieces.items ++ (piece_of_run arcs.now.arcs (partner_in meeting.now) run ∷ [])) }
@@ -167,11 +167,11 @@ pub(crate) fn joined_of(
     arcs: &ArcTable,
     meeting: &PseudoNodes,
     runs: Vec<ArcRun>,
-) -> Result<JoinedArcs, AllocError>
+) -> Result<JoinedRuns, AllocError>
     ensures pieces { IfOk result (λ j. j.pieces.items ≡ map_list (piece_of_run arcs.now.arcs (partner_in meeting.now)) runs.items) }
     ensures lists { IfOk result (λ j. j.lists.items ≡ map_list (list_of_run arcs.now.arcs (partner_in meeting.now)) runs.items) }
 {
-    let mut joined = JoinedArcs {
+    let mut joined = JoinedRuns {
         pieces: Vec::with_capacity(alloc, runs.len())?,
         lists: Vec::with_capacity(alloc, runs.len())?,
     };

@@ -12,7 +12,7 @@ ghost use Rattle.theory.specs.Healing.{before_start, from_start, rejoined, ring_
 ghost use Rattle.theory.specs.Topology.{IsRingList};
 
 use crate::arc_run::ArcRun;
-use crate::start_table::StartTable;
+use crate::start_table::ArcStartTable;
 use chains::table::{ArcRef, ArcTable};
 use chains::turning::turn_ring;
 use faults::OutOfMemory;
@@ -21,13 +21,13 @@ use std::marker::Model;
 
 /// The arcs of what is left, and for each of them the old arcs that it was joined of.
 #[derive(Drop)]
-pub struct Rejoined {
+pub struct HealedArcs {
     arcs: ArcTable,
     pieces: Vec<ArcRun>,
-    starts: StartTable,
+    starts: ArcStartTable,
 }
 
-impl Model for Rejoined {
+impl Model for HealedArcs {
     ghost use Rattle.heal_arcs.specs.Parts.{RejoinedParts};
     ghost use Rattle.heal_arcs.specs.Starts.{AreNotedIn};
 
@@ -38,18 +38,18 @@ impl Model for Rejoined {
     ghost invariant = { λ a. AreNotedIn a.starts a.pieces.items };
 }
 
-impl Rejoined {
+impl HealedArcs {
     /// What is left, with its lists of pieces, of a table of so many arcs.
     pub(crate) fn from_parts(
         alloc: Global,
         arcs: ArcTable,
         pieces: Vec<ArcRun>,
         count: usize,
-    ) -> Result<Rejoined, AllocError>
+    ) -> Result<HealedArcs, AllocError>
         ensures { IfOk result (λ r. r ≡ record { arcs = arcs; pieces = pieces.items }) }
     {
-        let starts = StartTable::of(alloc, &pieces, count)?;
-        Ok(Rejoined {
+        let starts = ArcStartTable::of(alloc, &pieces, count)?;
+        Ok(HealedArcs {
             arcs,
             pieces,
             starts,

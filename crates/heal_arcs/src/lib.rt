@@ -13,5 +13,5 @@ mod start_table;
 mod walking;
 
 pub use arc_run::ArcRun;
-pub use heal::rejoin;
-pub use healed_lists::Rejoined;
+pub use heal::heal;
+pub use healed_lists::HealedArcs;

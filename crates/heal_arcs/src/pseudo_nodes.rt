@@ -2,13 +2,13 @@
 ghost use Rattle.grid.specs.declared.pos.Pos.{Pos};
 ghost use Rattle.lines.specs.ByVertex.{count_at};
 ghost use Rattle.lines.specs.Pairs.{position_eq};
-ghost use Rattle.heal_arcs.specs.ByUse.{noted_of};
-ghost use Rattle.heal_arcs.specs.PseudoNodes.{AreGrouped, Begins, IsTold, all_ends, begin_at, end_at, end_if, ends_from, paired, partner_in, used_at, vertex_of, with_pair};
+ghost use Rattle.heal_arcs.specs.ArcUseMap.{noted_of};
+ghost use Rattle.heal_arcs.specs.PseudoNodes.{AreGrouped, Begins, IsVerdict, all_ends, begin_at, end_at, end_if, ends_from, paired, partner_in, used_at, vertex_of, with_pair};
 ghost use Rattle.std.specs.Prelude.{◌≡◌, ◌≤◌, ◌++◌, IfOk, OnOk, length, reverse, slice_get};
 ghost use Rattle.theory.specs.ArcNumbers as numbers;
 ghost use Rattle.theory.specs.Lists.{Distinct, Has};
 
-use crate::by_use::ByUse;
+use crate::by_use::ArcUseMap;
 use chains::table::{ArcRef, ArcTable};
 use chains::visits::VisitIndex;
 use faults::OutOfMemory;
@@ -43,7 +43,7 @@ impl ArcEnd {
 /// For each used arc the one other that begins where it begins, if one goes on there.
 #[derive(Drop)]
 pub(crate) struct PseudoNodes {
-    partners: ByUse<ArcRef>,
+    partners: ArcUseMap<ArcRef>,
 }
 
 fn first_of(arc: &[Pos]) -> Option<Pos>
@@ -129,7 +129,7 @@ fn count_of(ends: &[ArcEnd], vertex: Pos) -> usize
 }
 
 /// Notes of each of two used arcs that the other goes on from it.
-fn note_pair(partners: &mut ByUse<ArcRef>, first: ArcRef, second: ArcRef) -> Result<(), AllocError>
+fn link(partners: &mut ArcUseMap<ArcRef>, first: ArcRef, second: ArcRef) -> Result<(), AllocError>
     ensures { OnOk result ((q : numbers.ArcRef) → noted_of partners.new q ≡ paired first second (noted_of partners.old) q) }
 {
     partners.set(first, second)?;
@@ -137,8 +137,8 @@ fn note_pair(partners: &mut ByUse<ArcRef>, first: ArcRef, second: ArcRef) -> Res
 }
 
 /// Notes the used arcs of the ends at a vertex, which are these, where two meet and no line ends.
-fn note_met(
-    partners: &mut ByUse<ArcRef>,
+fn link_where_two_meet(
+    partners: &mut ArcUseMap<ArcRef>,
     stops: &VisitIndex,
     first: &ArcEnd,
     others: &[ArcEnd],
@@ -154,7 +154,7 @@ fn note_met(
     if stops.is_junction(first.vertex) {
         return Ok(());
     }
-    note_pair(partners, first.used_arc(), second.used_arc())
+    link(partners, first.used_arc(), second.used_arc())
 }
 
 /// The partners of the used arcs of sorted ends, with room for so many arcs.
@@ -163,14 +163,14 @@ fn partners_of(
     ends: &[ArcEnd],
     stops: &VisitIndex,
     count: usize,
-) -> Result<ByUse<ArcRef>, AllocError>
-    ensures { IfOk result (λ p. AreGrouped ends.now → (v : Pos) (a : numbers.ArcRef) → Has (end_at v a) ends.now → IsTold (Has v stops.now) (λ b. Has (end_at v b) ends.now) (noted_of p) a) }
+) -> Result<ArcUseMap<ArcRef>, AllocError>
+    ensures { IfOk result (λ p. AreGrouped ends.now → (v : Pos) (a : numbers.ArcRef) → Has (end_at v a) ends.now → IsVerdict (Has v stops.now) (λ b. Has (end_at v b) ends.now) (noted_of p) a) }
 {
-    let mut partners = ByUse::with_capacity(alloc, count)?;
+    let mut partners = ArcUseMap::with_capacity(alloc, count)?;
     let mut left = ends;
     while let Some((first, others)) = left.split_first() {
         let (here, behind) = others.split_at(count_of(others, first.vertex));
-        note_met(&mut partners, stops, first, here)?;
+        link_where_two_meet(&mut partners, stops, first, here)?;
         left = behind;
     }
     Ok(partners)
@@ -184,7 +184,7 @@ impl PseudoNodes {
         chosen: &[usize],
         ends: &[Pos],
     ) -> Result<PseudoNodes, OutOfMemory>
-        ensures { IfOk result (λ m. Distinct chosen.now → (v : Pos) (a : numbers.ArcRef) → Begins arcs.now.arcs v chosen.now a → IsTold (Has v ends.now) (Begins arcs.now.arcs v chosen.now) (partner_in m) a) }
+        ensures { IfOk result (λ m. Distinct chosen.now → (v : Pos) (a : numbers.ArcRef) → Begins arcs.now.arcs v chosen.now a → IsVerdict (Has v ends.now) (Begins arcs.now.arcs v chosen.now) (partner_in m) a) }
     {
         let stops = VisitIndex::from_junctions(alloc, ends.to_vec(alloc)?)?;
         let mut sorted = ends_of(alloc, arcs, chosen)?;

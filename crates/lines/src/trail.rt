@@ -10,7 +10,7 @@ ghost use Rattle.theory.specs.TopologyFunction.{keep};
 use crate::neighbours::has_equal_neighbours;
 use crate::pair::PositionPair;
 use crate::position_filter::PositionFilter;
-use crate::visited::ends_again;
+use crate::visited::ends_of_repeated;
 use grid::pos::Pos;
 use std::alloc::{AllocError, Global};
 
@@ -50,7 +50,7 @@ fn segments_between(
 pub(crate) fn repeats_segment(alloc: Global, positions: &[Pos]) -> Result<bool, AllocError>
     ensures { IfOk result (λ found. found ≡ repeats position_cmp positions.now) }
 {
-    let ends = ends_again(alloc, positions)?;
+    let ends = ends_of_repeated(alloc, positions)?;
     if ends.is_empty() {
         return Ok(false);
     }

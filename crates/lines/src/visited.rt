@@ -52,7 +52,7 @@ impl VisitedVertices {
 }
 
 /// Positions among which are both ends of each segment that occurs twice. In most lists there are none.
-pub(crate) fn ends_again(alloc: Global, positions: &[Pos]) -> Result<Vec<Pos>, AllocError>
+pub(crate) fn ends_of_repeated(alloc: Global, positions: &[Pos]) -> Result<Vec<Pos>, AllocError>
     ensures { IfOk result (λ ends. HoldEnds ends.items positions.now) }
 {
     let mut ends = Vec::new(alloc);

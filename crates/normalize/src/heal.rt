@@ -9,11 +9,11 @@ use crate::stitches::stitch_to;
 use chains::ArcTable;
 use faults::OutOfMemory;
 use grid::pos::Pos;
-use heal_arcs::{Rejoined, rejoin};
+use heal_arcs::{HealedArcs, heal};
 use std::alloc::Global;
 
 /// Whether the pieces of a joined arc stitch to it.
-fn stitches(table: &ArcTable, joined: &Rejoined, number: usize) -> bool
+fn stitches(table: &ArcTable, joined: &HealedArcs, number: usize) -> bool
     ensures { result ≡ true → (c : List place) → slice_get joined.now.arcs.arcs number ≡ Some c → StitchTo table.now.arcs (pieces_at joined.now.pieces number) c }
 {
     match joined.arcs().arc(number) {
@@ -26,7 +26,7 @@ fn stitches(table: &ArcTable, joined: &Rejoined, number: usize) -> bool
 }
 
 /// Whether the pieces of each joined arc stitch to it.
-fn all_stitch(table: &ArcTable, joined: &Rejoined) -> bool
+fn all_stitch(table: &ArcTable, joined: &HealedArcs) -> bool
     ensures { result ≡ true → AreJoinedOf table.now.arcs joined.now.arcs.arcs joined.now.pieces }
 {
     for number in 0..joined.arcs().len() {
@@ -39,15 +39,15 @@ fn all_stitch(table: &ArcTable, joined: &Rejoined) -> bool
 
 /// The arcs of a table joined where no node is: where none of these vertices is, at which a line begins or
 /// ends, and not three ends of arcs meet. None where an arc is not what its pieces stitch to.
-pub(crate) fn heal(
+pub(crate) fn healed_arcs(
     alloc: Global,
     table: &ArcTable,
     ends: &[Pos],
-) -> Result<Option<Rejoined>, OutOfMemory>
+) -> Result<Option<HealedArcs>, OutOfMemory>
     ensures { IfOk result (λ o. IfSome o (λ r. AreJoinedOf table.now.arcs r.arcs.arcs r.pieces)) }
 {
     let kept = vec![in alloc; true; table.len()]?;
-    let joined = rejoin(alloc, table, &kept, ends)?;
+    let joined = heal(alloc, table, &kept, ends)?;
     if !all_stitch(table, &joined) {
         return Ok(None);
     }

@@ -6,7 +6,7 @@ use crate::pieces::replace_arcs;
 use crate::split::Split;
 use chains::ArcRef;
 use faults::OutOfMemory;
-use heal_arcs::Rejoined;
+use heal_arcs::HealedArcs;
 use renumbering::NewLists;
 use std::alloc::Global;
 
@@ -14,7 +14,7 @@ use std::alloc::Global;
 #[derive(Drop)]
 pub(crate) struct HealedLists<'a> {
     pub(crate) split: &'a Split,
-    pub(crate) joined: &'a Rejoined,
+    pub(crate) joined: &'a HealedArcs,
 }
 
 fn has_pieces(split: &Split, used: ArcRef) -> bool

@@ -9,7 +9,7 @@ use crate::split::Split;
 use chains::ArcRef;
 use chains::used_arcs::add_in_direction;
 use faults::OutOfMemory;
-use heal_arcs::Rejoined;
+use heal_arcs::HealedArcs;
 use std::alloc::{AllocError, Global};
 
 /// Arcs that have pieces.
@@ -33,7 +33,7 @@ impl HavePieces for Split {
     }
 }
 
-impl HavePieces for Rejoined {
+impl HavePieces for HealedArcs {
     ghost pieces_of = { λ r. r.pieces };
 
     fn pieces(&self, number: usize) -> Option<&[ArcRef]> {

@@ -4,7 +4,7 @@ ghost use Rattle.validate.specs.Accept.Kept.{KeepLayers};
 ghost use Rattle.validate.specs.Accept.Laws.{HaveI64};
 
 use crate::copies::layers_copied;
-use crate::heal::heal;
+use crate::heal::healed_arcs;
 use crate::lists::HealedLists;
 use crate::seen::seen_in;
 use crate::split::Split;
@@ -43,7 +43,7 @@ pub fn normalize(
     let Some(split) = Split::of(alloc, arcs, &seen.used)? else {
         return Ok(None);
     };
-    let Some(joined) = heal(alloc, &split.table, &seen.ends)? else {
+    let Some(joined) = healed_arcs(alloc, &split.table, &seen.ends)? else {
         return Ok(None);
     };
     let lists = HealedLists {

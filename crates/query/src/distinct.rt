@@ -7,7 +7,7 @@ use std::alloc::{AllocError, Global};
 use topo::{Geom, Layer};
 
 /// Puts references to geometries at the end.
-pub(crate) fn note_geometries<'a>(
+pub(crate) fn add_geometries<'a>(
     noted: &mut Vec<&'a Geom>,
     geometries: &'a [Geom],
 ) -> Result<(), AllocError>
@@ -25,7 +25,7 @@ fn geometries_in<'a>(alloc: Global, layers: &'a [Layer]) -> Result<Vec<&'a Geom>
 {
     let mut noted = Vec::new(alloc);
     for layer in layers {
-        note_geometries(&mut noted, layer.geometries())?;
+        add_geometries(&mut noted, layer.geometries())?;
     }
     Ok(noted)
 }

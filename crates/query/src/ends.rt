@@ -37,7 +37,7 @@ fn last_end(arc: &[Pos]) -> Option<SpanEnd>
     })
 }
 
-fn note_end(ends: &mut Vec<SpanEnd>, end: Option<SpanEnd>) -> Result<(), AllocError>
+fn add_end(ends: &mut Vec<SpanEnd>, end: Option<SpanEnd>) -> Result<(), AllocError>
     ensures { OnOk result ((v w : Pos) → AmongEnds v w ends.new.items ↔ (AmongEnds v w ends.old.items ⊎ IsEnd v w end)) }
 {
     let Some(found) = end else {
@@ -48,18 +48,22 @@ fn note_end(ends: &mut Vec<SpanEnd>, end: Option<SpanEnd>) -> Result<(), AllocEr
 }
 
 /// Puts the two ends of an arc behind the others.
-fn note_ends(ends: &mut Vec<SpanEnd>, arc: &[Pos]) -> Result<(), AllocError>
+fn add_ends(ends: &mut Vec<SpanEnd>, arc: &[Pos]) -> Result<(), AllocError>
     ensures { OnOk result ((v w : Pos) → AmongEnds v w ends.new.items ↔ (AmongEnds v w ends.old.items ⊎ EndStep v w arc.now)) }
 {
-    note_end(ends, first_end(arc))?;
-    note_end(ends, last_end(arc))
+    add_end(ends, first_end(arc))?;
+    add_end(ends, last_end(arc))
 }
 
-fn note_number(ends: &mut Vec<SpanEnd>, arcs: &ArcTable, number: usize) -> Result<(), AllocError>
+fn add_numbered_arc(
+    ends: &mut Vec<SpanEnd>,
+    arcs: &ArcTable,
+    number: usize,
+) -> Result<(), AllocError>
     ensures { OnOk result ((v w : Pos) → AmongEnds v w ends.new.items ↔ (AmongEnds v w ends.old.items ⊎ EndStep v w (arc_at arcs.now.arcs number))) }
 {
     match arcs.arc(number) {
-        Some(arc) => note_ends(ends, arc),
+        Some(arc) => add_ends(ends, arc),
         None => Ok(()),
     }
 }
@@ -74,7 +78,7 @@ pub(crate) fn ends_of(
 {
     let mut ends = Vec::new(alloc);
     for number in chosen {
-        note_number(&mut ends, arcs, *number)?;
+        add_numbered_arc(&mut ends, arcs, *number)?;
     }
     Ok(ends)
 }

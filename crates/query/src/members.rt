@@ -24,7 +24,7 @@ pub(crate) struct Member<'a> {
     pub(crate) body: &'a Body,
 }
 
-fn note_layer<'a>(
+fn add_layer<'a>(
     alloc: Global,
     members: &mut Vec<Member<'a>>,
     topology: &Topology,
@@ -63,7 +63,7 @@ pub(crate) fn members_of<'a>(
     let layers = layers_in(topology, name)?;
     let mut members = Vec::new(alloc);
     for layer in layers {
-        note_layer(alloc, &mut members, topology, layer.geometries())?;
+        add_layer(alloc, &mut members, topology, layer.geometries())?;
     }
     sort_members(&mut members);
     Ok(members)

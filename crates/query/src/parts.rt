@@ -25,7 +25,7 @@ fn stops_at_both_ends(stops: &BTreeSet<Pos>, arc: &[Pos]) -> bool
 }
 
 /// Copies the arc of a number to the whole ones, or puts the number to those to be joined.
-fn note_part(
+fn add_part(
     alloc: Global,
     parts: &mut Parts,
     arcs: &ArcTable,
@@ -57,7 +57,7 @@ pub(crate) fn part(
         joined: Vec::new(alloc),
     };
     for number in chosen {
-        note_part(alloc, &mut parts, arcs, stops, *number)?;
+        add_part(alloc, &mut parts, arcs, stops, *number)?;
     }
     Ok(parts)
 }

@@ -5,7 +5,7 @@ ghost use Rattle.std.specs.Prelude.{◌≡◌, IfOk, None, replicate, map as map
 ghost use Rattle.topo.specs.OfMap.{body_of};
 
 use crate::members::Member;
-use crate::uses::{Use, note_body};
+use crate::uses::{Use, add_body};
 use std::alloc::{AllocError, Global};
 
 /// The indexes of the least and the greatest feature that use an arc.
@@ -30,7 +30,7 @@ fn widen(old: Option<Span>, index: usize) -> Span
     }
 }
 
-fn note_use(spans: &mut [Option<Span>], used: Use)
+fn add_use(spans: &mut [Option<Span>], used: Use)
     ensures { spans.new ≡ with_use spans.old used }
 {
     if used.arc < spans.len() {
@@ -44,7 +44,7 @@ fn all_uses(alloc: Global, members: &[Member]) -> Result<Vec<Use>, AllocError>
 {
     let mut uses = Vec::new(alloc);
     for index in 0..members.len() {
-        note_body(&mut uses, index, members[index].body)?;
+        add_body(&mut uses, index, members[index].body)?;
     }
     Ok(uses)
 }
@@ -69,7 +69,7 @@ pub(crate) fn spans_by(
 {
     let mut spans = no_spans(alloc, arcs)?;
     for used in uses {
-        note_use(&mut spans, *used);
+        add_use(&mut spans, *used);
     }
     Ok(spans)
 }

@@ -59,7 +59,7 @@ fn sides_of(first: &SpanEnd, others: &[SpanEnd]) -> Sides
 }
 
 /// Whether lines stop at a vertex with these sides.
-fn is_halt(sides: Sides) -> bool
+fn is_stop(sides: Sides) -> bool
     ensures { result ≡ halts sides }
 {
     match sides {
@@ -83,10 +83,10 @@ fn count_of(ends: &[SpanEnd], vertex: Pos) -> usize
 }
 
 /// Puts a vertex among the stops unless it lies on two segments.
-fn note_stop(stops: &mut BTreeSet<Pos>, vertex: Pos, sides: Sides) -> Result<(), AllocError>
+fn add_stop(stops: &mut BTreeSet<Pos>, vertex: Pos, sides: Sides) -> Result<(), AllocError>
     ensures { OnOk result ((q : Pos) → among stops.new.keys q ≡ stop_step (halts sides) q (among stops.old.keys q) vertex) }
 {
-    if !is_halt(sides) {
+    if !is_stop(sides) {
         return Ok(());
     }
     stops.insert(vertex)?;
@@ -101,7 +101,7 @@ fn stops_by(alloc: Global, ends: &[SpanEnd]) -> Result<BTreeSet<Pos>, AllocError
     let mut left = ends;
     while let Some((first, others)) = left.split_first() {
         let (here, behind) = others.split_at(count_of(others, first.at));
-        note_stop(&mut stops, first.at, sides_of(first, here))?;
+        add_stop(&mut stops, first.at, sides_of(first, here))?;
         left = behind;
     }
     Ok(stops)

@@ -7,7 +7,7 @@ ghost use Rattle.std.specs.Prelude.{◌≡◌, ◌++◌, IfOk, OnOk, length};
 
 use crate::edges::Edges;
 use crate::spans::Span;
-use crate::uses::{Use, note_body};
+use crate::uses::{Use, add_body};
 use std::alloc::{AllocError, Global};
 use topo::Geom;
 
@@ -17,7 +17,7 @@ pub(crate) fn uses_by(alloc: Global, geometries: &[&Geom]) -> Result<Vec<Use>, A
 {
     let mut uses = Vec::new(alloc);
     for index in 0..geometries.len() {
-        note_body(&mut uses, index, &geometries[index].body)?;
+        add_body(&mut uses, index, &geometries[index].body)?;
     }
     Ok(uses)
 }
@@ -33,7 +33,7 @@ pub(crate) fn uses_by_class(
 {
     let mut uses = Vec::new(alloc);
     for index in 0..geometries.len() {
-        note_body(&mut uses, classes[index], &geometries[index].body)?;
+        add_body(&mut uses, classes[index], &geometries[index].body)?;
     }
     Ok(uses)
 }
@@ -52,7 +52,7 @@ fn ask_for(edges: Edges, span: Option<Span>) -> bool
     }
 }
 
-fn note_asked(
+fn add_asked(
     asked: &mut Vec<usize>,
     number: usize,
     span: Option<Span>,
@@ -76,7 +76,7 @@ pub(crate) fn asked_arcs(
 {
     let mut asked = Vec::new(alloc);
     for number in 0..spans.len() {
-        note_asked(&mut asked, number, spans[number], edges)?;
+        add_asked(&mut asked, number, spans[number], edges)?;
     }
     Ok(asked)
 }

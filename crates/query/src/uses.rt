@@ -14,7 +14,7 @@ pub(crate) struct Use {
     pub(crate) index: usize,
 }
 
-fn note_refs(uses: &mut Vec<Use>, index: usize, refs: &[ArcRef]) -> Result<(), AllocError>
+fn add_refs(uses: &mut Vec<Use>, index: usize, refs: &[ArcRef]) -> Result<(), AllocError>
     ensures { OnOk result (uses.new.items ≡ uses.old.items ++ refs_uses index refs.now) }
 {
     for used in refs {
@@ -27,21 +27,21 @@ fn note_refs(uses: &mut Vec<Use>, index: usize, refs: &[ArcRef]) -> Result<(), A
 }
 
 /// Notes that the feature at an index uses the arcs of its body.
-pub(crate) fn note_body(uses: &mut Vec<Use>, index: usize, body: &Body) -> Result<(), AllocError>
+pub(crate) fn add_body(uses: &mut Vec<Use>, index: usize, body: &Body) -> Result<(), AllocError>
     ensures { OnOk result (uses.new.items ≡ uses.old.items ++ body_uses index (body_of body.now)) }
 {
     for refs in body.parts() {
-        note_refs(uses, index, refs.as_slice())?;
+        add_refs(uses, index, refs.as_slice())?;
     }
     Ok(())
 }
 
 /// Notes which of the geometries use which arc, index by index.
-pub(crate) fn note_geometries(uses: &mut Vec<Use>, geometries: &[Geom]) -> Result<(), AllocError>
+pub(crate) fn add_geometries(uses: &mut Vec<Use>, geometries: &[Geom]) -> Result<(), AllocError>
     ensures { OnOk result (uses.new.items ≡ uses.old.items ++ geometries_uses geometries.now) }
 {
     for index in 0..geometries.len() {
-        note_body(uses, index, &geometries[index].body)?;
+        add_body(uses, index, &geometries[index].body)?;
     }
     Ok(())
 }

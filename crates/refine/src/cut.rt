@@ -272,7 +272,7 @@ fn unite(alloc: Global, left: Topology, right: Topology) -> Result<Topology, Out
     let (lefts, rights) = layers_of_sides(alloc, &cut, left_layers, right_layers)?;
     let arcs = cut.into_arcs();
     let layers = layers_of_both(alloc, &arcs, lefts, rights)?;
-    Ok(Topology::from_unmeasured_parts(grid, arcs, layers))
+    Ok(Topology::from_parts_without_bbox(grid, arcs, layers))
 }
 
 pub(crate) fn on_one_grid(left: &Topology, right: &Topology) -> bool

@@ -177,7 +177,7 @@ fn layers_less<'a>(
 }
 
 /// The layers of a topology without the geometries whose features another one has.
-pub(crate) fn layers_apart<'a>(
+pub(crate) fn layers_without<'a>(
     alloc: Global,
     topology: &'a Topology,
     removed: &Topology,

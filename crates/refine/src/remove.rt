@@ -21,13 +21,13 @@ ghost use Rattle.topo.specs.GeometryOrder.{HaveFeatures};
 ghost use Rattle.topo.specs.OfMap.{IsOf};
 
 use crate::cut::on_one_grid;
-use crate::difference::layers_apart;
+use crate::difference::layers_without;
 use crate::fault::JoinFault;
 use crate::stitches::stitches_to;
 use chains::table::{ArcRef, ArcTable};
 use faults::OutOfMemory;
 use grid::Pos;
-use heal_arcs::{ArcRun, Rejoined, rejoin};
+use heal_arcs::{ArcRun, HealedArcs, heal};
 use lines::items::Items;
 use renumbering::{NewLists, copy_rewritten};
 use shapes::feature::Feature;
@@ -275,7 +275,11 @@ fn arcs_kept(alloc: Global, arcs: &ArcTable, layers: &[LayerLeft]) -> Result<Vec
     Ok(kept)
 }
 
-fn note_line(ends: &mut Vec<Pos>, topology: &Topology, used: &[ArcRef]) -> Result<(), OutOfMemory>
+fn add_ends_of_line(
+    ends: &mut Vec<Pos>,
+    topology: &Topology,
+    used: &[ArcRef],
+) -> Result<(), OutOfMemory>
     ensures { OnOk result (ends.new.items ≡ ends.old.items ++ left_lists.line_ends topology.now.arcs.arcs used.now) }
 {
     let mut walk = topology.walk(used);
@@ -290,16 +294,20 @@ fn note_line(ends: &mut Vec<Pos>, topology: &Topology, used: &[ArcRef]) -> Resul
     Ok(())
 }
 
-fn note_body(ends: &mut Vec<Pos>, topology: &Topology, body: &Body) -> Result<(), OutOfMemory>
+fn add_ends_of_body(
+    ends: &mut Vec<Pos>,
+    topology: &Topology,
+    body: &Body,
+) -> Result<(), OutOfMemory>
     ensures { OnOk result (ends.new.items ≡ ends.old.items ++ left_lists.body_ends topology.now.arcs.arcs body.now) }
 {
     for used in body.lines() {
-        note_line(ends, topology, used.as_slice())?;
+        add_ends_of_line(ends, topology, used.as_slice())?;
     }
     Ok(())
 }
 
-fn note_layer(
+fn add_ends_of_layer(
     ends: &mut Vec<Pos>,
     topology: &Topology,
     layer: &LayerLeft,
@@ -307,7 +315,7 @@ fn note_layer(
     ensures { OnOk result (ends.new.items ≡ ends.old.items ++ left_lists.layer_ends topology.now.arcs.arcs (lent layer.now)) }
 {
     for geometry in &layer.geometries {
-        note_body(ends, topology, &geometry.body)?;
+        add_ends_of_body(ends, topology, &geometry.body)?;
     }
     Ok(())
 }
@@ -322,7 +330,7 @@ fn line_ends(
 {
     let mut ends = Vec::new(alloc);
     for layer in layers {
-        note_layer(&mut ends, topology, layer)?;
+        add_ends_of_layer(&mut ends, topology, layer)?;
     }
     Ok(ends)
 }
@@ -330,7 +338,7 @@ fn line_ends(
 /// The lists of what stays by the arcs that are joined again.
 #[derive(Drop)]
 struct JoinedLists<'a> {
-    joined: &'a Rejoined,
+    joined: &'a HealedArcs,
 }
 
 impl NewLists for JoinedLists<'_> {
@@ -348,7 +356,7 @@ impl NewLists for JoinedLists<'_> {
 }
 
 /// A layer that stays by the new arcs.
-fn layer_rejoined(alloc: Global, arcs: &Rejoined, layer: &LayerLeft) -> Result<Layer, OutOfMemory>
+fn layer_rejoined(alloc: Global, arcs: &HealedArcs, layer: &LayerLeft) -> Result<Layer, OutOfMemory>
     ensures { IfOk result (λ l. l ≡ rejoined.layer_rejoined arcs.now.arcs.arcs (starts_by arcs.now.pieces) (lent layer.now)) }
 {
     let name = layer.name.copy(alloc)?;
@@ -363,7 +371,7 @@ fn layer_rejoined(alloc: Global, arcs: &Rejoined, layer: &LayerLeft) -> Result<L
 /// The layers that stay by the new arcs.
 fn layers_rejoined(
     alloc: Global,
-    arcs: &Rejoined,
+    arcs: &HealedArcs,
     layers: &[LayerLeft],
 ) -> Result<Vec<Layer>, OutOfMemory>
     ensures { IfOk result (λ v. v.items ≡ map_list (rejoined.layer_rejoined arcs.now.arcs.arcs (starts_by arcs.now.pieces)) (all_lent layers.now)) }
@@ -389,10 +397,10 @@ fn removal_of(
 {
     let kept = arcs_kept(alloc, topology.arcs(), left)?;
     let ends = line_ends(alloc, topology, left)?;
-    let joined = rejoin(alloc, topology.arcs(), &kept, &ends)?;
+    let joined = heal(alloc, topology.arcs(), &kept, &ends)?;
     let layers = layers_rejoined(alloc, &joined, left)?;
     let (arcs, pieces) = joined.into_parts();
-    let topology = Topology::from_unmeasured_parts(topology.grid(), arcs, layers);
+    let topology = Topology::from_parts_without_bbox(topology.grid(), arcs, layers);
     Ok(Removal { topology, pieces })
 }
 
@@ -436,7 +444,7 @@ pub fn remove_topology(
     if !on_one_grid(topology, removed) {
         return Err(JoinFault::OtherGrid);
     }
-    let left = layers_apart(alloc, topology, removed)?;
+    let left = layers_without(alloc, topology, removed)?;
     let removal = removal_of(alloc, topology, &left)?;
     Ok(removal)
 }

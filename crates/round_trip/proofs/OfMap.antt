@@ -51,8 +51,8 @@ module _ (J : Pos → Type 0) (arcs : List (List Pos)) where
   line_stands : (l : the_line.Line) (used : List ArcRef) → StitchTo arcs used (lines_seen.positions_of l) → LineStands arcs (lines_seen.positions_of l) used
   line_stands l used h = record { list = lines_seen.positions_of l; stitches = h; none = ap outline_faults (line_reads l).0; same = (line_reads l).1 }
 
-  ring_stands : (r : the_ring.Ring) (used : List ArcRef) → IsRingList position_cmp J arcs (lines_seen.vertices_of r) used → RingStands arcs (lines_seen.vertices_of r) used
-  ring_stands r used h =
+  is_valid_ring : (r : the_ring.Ring) (used : List ArcRef) → IsRingList position_cmp J arcs (lines_seen.vertices_of r) used → RingStands arcs (lines_seen.vertices_of r) used
+  is_valid_ring r used h =
       let reads = ring_reads r (h.0 ∷ h.1) h.2.rotation in
       record { list = closed (h.0 ∷ h.1); stitches = h.3; none = ap outline_faults reads.0; same = reads.1 }
 
@@ -63,7 +63,7 @@ module _ (J : Pos → Type 0) (arcs : List (List Pos)) where
   pairs_stand P Q f to (l ∷ ls) (u ∷ us) h = (to l u h.0, pairs_stand P Q f to ls us h.1)
 
   rings_stand : (rs : List the_ring.Ring) (us : List (List ArcRef)) → Pairwise (IsRingList position_cmp J arcs) (map_list ring_of rs) us → Pairwise (RingStands arcs) (map_list ring_of rs) us
-  rings_stand = pairs_stand (IsRingList position_cmp J arcs) (RingStands arcs) ring_of ring_stands
+  rings_stand = pairs_stand (IsRingList position_cmp J arcs) (RingStands arcs) ring_of is_valid_ring
 
   form_stands : (s : shapes.Shape) (b : Body Pos) → IsFormOf (λ l used. StitchTo arcs used l) (IsRingList position_cmp J arcs) (form_of s) b → IsFormOf (LineStands arcs) (RingStands arcs) (plain_form s) b
   form_stands of.Null null h = tt

@@ -80,7 +80,7 @@ fn cut_both(
 }
 
 /// The used arcs up to a place, and those from there on, each between the bounds of its side.
-fn lists_apart(
+fn lists_without_shared_segments(
     refs: Vec<ArcRef>,
     place: usize,
     left_bounds: Vec<usize>,
@@ -113,7 +113,12 @@ pub fn recut_owned(alloc: Global, left: ArcTable, right: ArcTable) -> Result<Rec
     let cuts = VisitIndex::over_arcs(alloc, &left, &right)?;
     let cut = cut_both(alloc, &cuts, left, right)?;
     let (arcs, refs) = ArcTable::with_refs(alloc, cut.pieces)?;
-    let (left, right) = lists_apart(refs, cut.left_count, cut.left_bounds, cut.right_bounds)?;
+    let (left, right) = lists_without_shared_segments(
+        refs,
+        cut.left_count,
+        cut.left_bounds,
+        cut.right_bounds,
+    )?;
     Ok(Recut::from_parts(arcs.with_extent(cuts.extent), left, right))
 }
 

@@ -103,10 +103,10 @@ module _ {V : Type 0} (cmp : V → V → Ordering) (o : IsTotalOrder cmp) (same 
       subst (λ w. IsRingList cmp (JunctionOf g) arcs r w) (sym e) t.3
 
   -- so it stands, where it begins with the used arc that starts least
-  pub ring_stands : (r : List V) → IsRingOf g r → (a : ArcRef) (more : List ArcRef) → IsListOfRing arcs r (a ∷ more) →
+  pub is_valid_ring : (r : List V) → IsRingOf g r → (a : ArcRef) (more : List ArcRef) → IsListOfRing arcs r (a ∷ more) →
       (y z : V) (q : List V) → along arcs a ≡ Some (y ∷ (z ∷ q)) → StartsLeast cmp arcs y z (a ∷ more) →
       IsRingList cmp (JunctionOf g) arcs r (a ∷ more)
-  ring_stands r i a more st y z q e least =
+  is_valid_ring r i a more st y z q e least =
       let t = ring_parts r i (a ∷ more) st in
       let f : (a ∷ more) ++ [] ≡ t.1 ++ t.0 =
       least_start cmp o same dec g sg arcs all r i t.0 t.1 [] a more y z q t.3 t.2 e (subst (λ w. StartsLeast cmp arcs y z w) t.2 least) in

@@ -246,40 +246,40 @@ pub fn topology_of_what_is_left<V, I, G, B>()
 // Arcs, lists and topologies that stand as a text has them.
 
 /// Arcs of which no vertex inside one is at another place are valid.
-#[tactic(auto, using(crate::proofs::ValidityProved::arcs_apart_stand))]
-pub fn arcs_apart_stand<V>()
+#[tactic(auto, using(crate::proofs::ValidityProved::noded_arcs_are_valid))]
+pub fn noded_arcs_are_valid<V>()
     ensures { standing.ArcsApartStand V }
 {}
 
 /// Valid arcs are the arcs of the map that they make: no segment is in two of them, or twice in one.
-pub fn arcs_that_stand<V>()
+pub fn valid_arcs_are_the_maps<V>()
     ensures { standing.ArcsThatStand V }
 {}
 
 /// What a list stitches to that uses no arc twice is a line, or, closed, a ring.
-#[tactic(auto, using(crate::proofs::ValidityProved::lists_that_stand))]
-pub fn lists_that_stand<V>()
+#[tactic(auto, using(crate::proofs::ValidityProved::valid_lists_are_lines_or_rings))]
+pub fn valid_lists_are_lines_or_rings<V>()
     ensures { standing.ListsThatStand V }
 {}
 
 /// Arcs that are valid for a map are its arcs.
-pub fn arcs_of_a_map_that_stand<V>()
+pub fn arcs_valid_for_a_map_are_its<V>()
     ensures { standing.ArcsOfAMapThatStand V }
 {}
 
 /// A ring's list, turned to begin where it starts least, is the one that the topology has.
-#[tactic(auto, using(crate::proofs::ValidityProved::ring_lists_that_stand))]
-pub fn ring_lists_that_stand<V>()
+#[tactic(auto, using(crate::proofs::ValidityProved::valid_ring_lists_are_the_maps))]
+pub fn valid_ring_lists_are_the_maps<V>()
     ensures { standing.RingListsThatStand V }
 {}
 
 /// A topology that is valid for a map is that of the map.
-pub fn topology_that_stands<V, I, G, B>()
+pub fn topology_valid_for_a_map_is_its<V, I, G, B>()
     ensures { standing.TopologyThatStands V I G B }
 {}
 
 /// And the topology of each map is valid for it.
-#[tactic(auto, using(crate::proofs::ValidityProved::topologies_stand))]
-pub fn topologies_stand<V, I, G, B>()
+#[tactic(auto, using(crate::proofs::ValidityProved::topology_of_a_map_is_valid))]
+pub fn topology_of_a_map_is_valid<V, I, G, B>()
     ensures { standing.TopologiesStand V I G B }
 {}

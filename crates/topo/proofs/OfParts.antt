@@ -11,7 +11,7 @@ use Rattle.topo.specs.Kept.{kept_box}
 use Rattle.topo.specs.OfMap.{ArePartsOf, IsOf, IsOfSomeMap}
 use Rattle.topo.specs.Parts.{LayerParts, TopologyParts}
 use Rattle.topo.specs.Points.{layer_points}
-use Rattle.topo.specs.declared.bounds.KeptBox.{KeptBox}
+use Rattle.topo.specs.declared.bounds.Bbox.{Bbox}
 use Rattle.topo.proofs.Boxes.{box_same}
 use Rattle.topo.proofs.Positions.{positions_kept, positions_found}
 use Rattle.topo.proofs.Sound.{are_sound}
@@ -30,14 +30,14 @@ of_parts m t parts e = record {
 }
 
 -- a box that is kept for the same arcs and layers is that of the parts too
-pub kept_for : (g : Transform) (arcs : Arcs) (k l : List LayerParts) (b : KeptBox) → k ≡ l →
+pub kept_for : (g : Transform) (arcs : Arcs) (k l : List LayerParts) (b : Bbox) → k ≡ l →
     kept_box g arcs k b ≡ box_of g (joined arcs.arcs ++ gathered layer_points k) → kept_box g arcs l b ≡ box_of g (joined arcs.arcs ++ gathered layer_points l)
 kept_for g arcs k l b e h = subst (λ w. kept_box g arcs w b ≡ box_of g (joined arcs.arcs ++ gathered layer_points w)) e h
 
-abbrev parts_with : Transform → Arcs → List LayerParts → KeptBox → TopologyParts
+abbrev parts_with : Transform → Arcs → List LayerParts → Bbox → TopologyParts
 parts_with g a k x = record { grid = g; arcs = a; layers = k; bbox = kept_box g a k x }
 
 -- equal parts are those of some map too
-pub same_parts : (g : Transform) (a b : Arcs) (k l : List LayerParts) (x : KeptBox) → IsOfSomeMap (parts_with g a k x) → a ≡ b → k ≡ l →
+pub same_parts : (g : Transform) (a b : Arcs) (k l : List LayerParts) (x : Bbox) → IsOfSomeMap (parts_with g a k x) → a ≡ b → k ≡ l →
     IsOfSomeMap (parts_with g b l x)
 same_parts g a b k l x h e f = subst (λ w. IsOfSomeMap (parts_with g w l x)) e (subst (λ w. IsOfSomeMap (parts_with g a w x)) f h)

@@ -116,21 +116,21 @@ pub(crate) fn bounds(grid: &Grid, arcs: &ArcTable, layers: &[Layer]) -> Option<C
 
 /// What a topology keeps of its box: the box that was found, or that it is sought when it is asked for.
 #[derive(Clone, Copy)]
-pub(crate) enum KeptBox {
-    Found(Option<Corners>),
-    Sought,
+pub(crate) enum Bbox {
+    Known(Option<Corners>),
+    Unknown,
 }
 
-impl KeptBox {
+impl Bbox {
     /// What is kept where no position is walked: with no arcs and no layers there is no box, and any
     /// other one is sought.
-    pub(crate) fn unmeasured_box(arcs: &ArcTable, layers: &[Layer]) -> KeptBox
+    pub(crate) fn unknown_box(arcs: &ArcTable, layers: &[Layer]) -> Bbox
         ensures kept { (g : Transform) → kept_box g arcs.now layers.now result ≡ box_of g (joined arcs.now.arcs ++ gathered layer_points layers.now) }
         ensures few { length arcs.now.arcs < 2 ^ 63 }
     {
         if arcs.len() == 0 && layers.is_empty() {
-            return KeptBox::Found(None);
+            return Bbox::Known(None);
         }
-        KeptBox::Sought
+        Bbox::Unknown
     }
 }

@@ -9,7 +9,7 @@ ghost use Rattle.topo.specs.OfMap.{ArePartsOf, IsOf, IsOfSomeMap, IsTopology, se
 ghost use Rattle.topo.specs.Parts.{LayerParts, IsOfLayerNamed};
 ghost use Rattle.topo.specs.Walked.{walked};
 
-use crate::bounds::{KeptBox, bounds};
+use crate::bounds::{Bbox, bounds};
 use crate::geom::Geom;
 use crate::walk::Walk;
 use chains::table::{ArcRef, ArcTable};
@@ -111,7 +111,7 @@ pub struct Topology {
     grid: Grid,
     arcs: ArcTable,
     layers: Items<Layer>,
-    bbox: KeptBox,
+    bbox: Bbox,
 }
 
 impl Model for Topology {
@@ -142,13 +142,13 @@ impl Topology {
             grid,
             arcs,
             layers: Items::from_vec(layers),
-            bbox: KeptBox::Found(bbox),
+            bbox: Bbox::Known(bbox),
         }
     }
 
     /// `from_parts` of a topology whose box is not asked for, or seldom: it is sought each time that it
     /// is asked for.
-    pub fn from_unmeasured_parts(grid: Grid, arcs: ArcTable, layers: Vec<Layer>) -> Topology
+    pub fn from_parts_without_bbox(grid: Grid, arcs: ArcTable, layers: Vec<Layer>) -> Topology
         requires { (m : Layers) × ArePartsOf m arcs layers.items }
         ensures grid { result.grid ≡ grid }
         ensures arcs { result.arcs ≡ arcs }
@@ -156,7 +156,7 @@ impl Topology {
         ensures of_map { (m : Layers) → ArePartsOf m arcs layers.items → IsOf m result }
         ensures few { length result.arcs.arcs < 2 ^ 63 }
     {
-        let bbox = KeptBox::unmeasured_box(&arcs, &layers);
+        let bbox = Bbox::unknown_box(&arcs, &layers);
         Topology {
             grid,
             arcs,
@@ -203,8 +203,8 @@ impl Topology {
         ensures { result ≡ self.now.bbox }
     {
         match self.bbox {
-            KeptBox::Found(bbox) => bbox,
-            KeptBox::Sought => bounds(&self.grid, &self.arcs, self.layers.as_slice()),
+            Bbox::Known(bbox) => bbox,
+            Bbox::Unknown => bounds(&self.grid, &self.arcs, self.layers.as_slice()),
         }
     }
 

@@ -61,8 +61,8 @@ module _ (arcs : List (List Pos)) where
   same_layers (e ∷ es) [] h = absurd h
   same_layers (e ∷ es) (l ∷ ls) h = λ i. (sym h.0.name i, map_list plain (set.items e.1)) ∷ same_layers es ls h.1 i
 
-pub as_it_stands : law.AsItStands
-as_it_stands bytes g t ls s stand order =
+pub valid_texts_mean_a_map : law.AsItStands
+valid_texts_mean_a_map bytes g t ls s stand order =
     let (m, stitched) = layers_make_a_map t ls stand (said_ids bytes g t.arcs ls s) order in
     let es = map.entries m in (
       m,
@@ -76,7 +76,7 @@ pub taken_means : (bytes : List ℕ) (g : Transform) (arcs : List (List Pos)) (l
 taken_means bytes g arcs ls t s same_grid same_table same_layers stand of_map =
     let said : AreSaid bytes t.grid t.arcs.arcs t.layers = subst (λ w. w) (λ i. AreSaid bytes (sym same_grid i) (sym same_table i).arcs (sym same_layers i)) s in
     let stands : StandInOrder t.arcs t.layers = subst (λ w. w) (λ i. StandInOrder (sym same_table i) (sym same_layers i)) stand in
-    let (m, means, parts) = as_it_stands bytes t.grid t.arcs t.layers said stands.stand stands.order in
+    let (m, means, parts) = valid_texts_mean_a_map bytes t.grid t.arcs t.layers said stands.stand stands.order in
     (m, means, of_map m parts)
 
 -- the same of what is answered, where that is a topology

@@ -8,7 +8,7 @@ pub fn one_meaning()
 
 /// Where the layers of a text are valid over its arcs, in order, the text means a feature map, and its
 /// arcs and layers are those of that map's topology.
-pub fn as_it_stands()
+pub fn valid_texts_mean_a_map()
     ensures { AsItStands }
 {}
 

@@ -5,7 +5,7 @@ use grid::pos::Pos;
 use std::alloc::Global;
 use std::test::Fail;
 use validate::{
-    ArcsUsed, add_line_ends, ends_meet, free_loops, is_apart, line_run, ring_stands, run,
+    ArcsUsed, add_line_ends, ends_meet, free_loops, is_noded, is_valid_ring, line_run, run,
 };
 use worked_maps::{Places, has_arcs, is_at, lists, positions, refs_of, rows, stand_at};
 
@@ -30,7 +30,7 @@ fn read(alloc: Global, arcs: &[Places], free: &[bool]) -> Result<Option<ArcTable
     let Some(table) = ArcTable::from_sorted(alloc, lists(alloc, arcs)?, free)? else {
         return Ok(None);
     };
-    if is_apart(alloc, &table)? {
+    if is_noded(alloc, &table)? {
         return Ok(Some(table));
     }
     Ok(None)
@@ -209,7 +209,7 @@ fn ring(alloc: Global, arcs: Arcs, free: Marks, indexes: &[i64]) -> Result<bool,
     let table = table(alloc, arcs, free)?;
     let mut used = ArcsUsed::none(alloc, table.len())?;
     let list = refs_of(alloc, indexes)?;
-    Ok(ring_stands(&table, &mut used, &list))
+    Ok(is_valid_ring(&table, &mut used, &list))
 }
 
 #[test]
@@ -231,7 +231,7 @@ fn arcs_that_lists_use(rt: HostRuntime) -> Result<(), Fail> {
     let all_before = used.all();
     let line_runs = line_run(&arcs, &mut used, &line).is_some();
     let all_between = used.all();
-    assert!(rt; line_runs && ring_stands(&arcs, &mut used, &ring));
+    assert!(rt; line_runs && is_valid_ring(&arcs, &mut used, &ring));
     assert!(rt; !all_before && !all_between && used.all());
     Ok(())
 }
@@ -245,10 +245,10 @@ fn arcs_that_lists_of_loops_use(rt: HostRuntime) -> Result<(), Fail> {
     let mut used = ArcsUsed::none(rt.alloc(), arcs.len())?;
     let line_runs = line_run(&arcs, &mut used, &line).is_some();
     let all_before = used.all();
-    let ring_runs = ring_stands(&arcs, &mut used, &ring);
+    let ring_runs = is_valid_ring(&arcs, &mut used, &ring);
     let all_between = used.all();
     assert!(rt; line_runs && ring_runs && !all_before && !all_between);
-    assert!(rt; ring_stands(&arcs, &mut used, &refs_of(rt.alloc(), &[2])?) && used.all());
+    assert!(rt; is_valid_ring(&arcs, &mut used, &refs_of(rt.alloc(), &[2])?) && used.all());
     Ok(())
 }
 

@@ -22,7 +22,7 @@ use Rattle.theory.proofs.JunctionTest.{equal-same_vertex, same_vertex-equal}
 use Rattle.theory.proofs.Lists.{Has-append_left, front_last, last-snoc}
 use Rattle.theory.proofs.ListsOfLists.{get_has}
 use Rattle.theory.proofs.ValidLists.{Has-snoc}
-use Rattle.theory.proofs.ValidityProved.{arcs_apart_stand, arcs_that_stand}
+use Rattle.theory.proofs.ValidityProved.{noded_arcs_are_valid, valid_arcs_are_the_maps}
 use Rattle.theory.specs.Arcs.{Ascends}
 use Rattle.theory.specs.Chain.{Free}
 use Rattle.theory.specs.Geometry.{AtMost, Geometry, IsLineOf, IsRingOf, IsSound, JunctionOf}
@@ -39,7 +39,7 @@ use Rattle.chains.specs.Stored.{rises}
 use Rattle.chains.proofs.Among.{among_has, has_among}
 use Rattle.chains.proofs.AsTheyStand.{sorted_told}
 use Rattle.chains.proofs.TablesAsMap.{has_loop, has_open, loop_has, open_has}
-use Rattle.validate.specs.Noding.{AreInOrder, arc_inside, begins_least, each_forward, each_stands, is_forward, none_before, stands_alone}
+use Rattle.validate.specs.Noding.{AreInOrder, arc_inside, begins_least, each_forward, arcs_are_valid, is_forward, none_before, is_valid_arc}
 use Rattle.validate.specs.EndTests.{both_are, each_ends, ends_are}
 use Rattle.validate.specs.declared.end_tests.EndsHaveToBe.TheVariants.{Apart}
 use Rattle.validate.specs.SharedVertices.{KeepsElsewhere}
@@ -127,16 +127,16 @@ cases true = inl refl
 cases false = inr refl
 
 -- what is looked at in one arc
-alone_forward : (free : Bool) (c : List Pos) → stands_alone free c ≡ true → is_forward c ≡ true
+alone_forward : (free : Bool) (c : List Pos) → is_valid_arc free c ≡ true → is_forward c ≡ true
 alone_forward free c e = (cond_both (is_forward c) (cond free (is_closed position_cmp c && begins_least c) true) e).0
 
-alone_loop : (free : Bool) (c : List Pos) → free ≡ true → stands_alone free c ≡ true → (is_closed position_cmp c ≡ true) × (begins_least c ≡ true)
+alone_loop : (free : Bool) (c : List Pos) → free ≡ true → is_valid_arc free c ≡ true → (is_closed position_cmp c ≡ true) × (begins_least c ≡ true)
 alone_loop free c f e =
     both_true (is_closed position_cmp c) (begins_least c)
     (sym (ap (λ w. cond w (is_closed position_cmp c && begins_least c) true) f)
     ∙ (cond_both (is_forward c) (cond free (is_closed position_cmp c && begins_least c) true) e).1)
 
-alone_intro : (free : Bool) (c : List Pos) → is_forward c ≡ true → (free ≡ true → (is_closed position_cmp c && begins_least c) ≡ true) → stands_alone free c ≡ true
+alone_intro : (free : Bool) (c : List Pos) → is_forward c ≡ true → (free ≡ true → (is_closed position_cmp c && begins_least c) ≡ true) → is_valid_arc free c ≡ true
 alone_intro free c e f = ap (λ w. cond w (cond free (is_closed position_cmp c && begins_least c) true) false) e ∙ go free f
   where
     go : (b : Bool) → (b ≡ true → (is_closed position_cmp c && begins_least c) ≡ true) → cond b (is_closed position_cmp c && begins_least c) true ≡ true
@@ -163,9 +163,9 @@ module _ (t : Arcs) where
   free = is_loop t.loops
 
   -- each arc that was looked at
-  module _ (e : each_stands t.loops t.arcs ≡ true) where
-    alone : (c : List Pos) → Has c t.arcs → stands_alone (free c) c ≡ true
-    alone c h = all_has (λ c. stands_alone (free c) c) t.arcs e c h
+  module _ (e : arcs_are_valid t.loops t.arcs ≡ true) where
+    alone : (c : List Pos) → Has c t.arcs → is_valid_arc (free c) c ≡ true
+    alone c h = all_has (λ c. is_valid_arc (free c) c) t.arcs e c h
 
     loop_closed : (c : List Pos) → Has c t.arcs → free c ≡ true → c ≡ closed (unclosed c)
     loop_closed c h f = closes c (alone_forward (free c) c (alone c h)) (alone_loop (free c) c f (alone c h)).0
@@ -202,8 +202,8 @@ module _ (t : Arcs) where
           | inr k ↦ subst (AtMost position_cmp x) (sym k) (at_most_self position_cmp position_total position_same x)
         ])
 
-    pub looked_at : each_stands t.loops t.arcs ≡ true
-    looked_at = all_from (λ c. stands_alone (free c) c) t.arcs (λ c h. alone_intro (free c) c (less_forward c (st.forward c h)) (goes_round c h))
+    pub looked_at : arcs_are_valid t.loops t.arcs ≡ true
+    looked_at = all_from (λ c. is_valid_arc (free c) c) t.arcs (λ c h. alone_intro (free c) c (less_forward c (st.forward c h)) (goes_round c h))
 
   -- of the vertices inside, those that may stand elsewhere too, sorted
   module _ (inside few sorted : List Pos) (same : inside ≡ gathered (arc_inside t.loops) t.arcs) (kept : KeepsElsewhere few inside t.arcs) (moved : IsPermutation few sorted)
@@ -233,7 +233,7 @@ module _ (t : Arcs) where
         let k : equal_neighbours position_eq sorted ≡ true = twins_sorted sorted up (doubled_moved few sorted moved (doubled_few h)) in
         let q : true ≡ false = sym k ∙ e in absurd cc)
 
-    pub apart_intro : Ascends list_cmp t.arcs → each_stands t.loops t.arcs ≡ true → equal_neighbours position_eq sorted ≡ false → each_ends Apart sorted t.loops t.arcs ≡ true →
+    pub apart_intro : Ascends list_cmp t.arcs → arcs_are_valid t.loops t.arcs ≡ true → equal_neighbours position_eq sorted ≡ false → each_ends Apart sorted t.loops t.arcs ≡ true →
         ArcsApart position_cmp t.arcs m
     apart_intro asc e n a = record {
       parted = parted e;
@@ -258,10 +258,10 @@ module _ (t : Arcs) where
   -- arcs that are apart are those of their map, of which the marked ones are free
   module _ (st : ArcsApart position_cmp t.arcs m) where
     stand : ArcsStand position_cmp t.arcs m
-    stand = arcs_apart_stand position_cmp order t.arcs m st
+    stand = noded_arcs_are_valid position_cmp order t.arcs m st
 
     pub map_sound : IsSound m
-    map_sound = (arcs_that_stand position_cmp order t.arcs m stand).0
+    map_sound = (valid_arcs_are_the_maps position_cmp order t.arcs m stand).0
 
     told : (c : List Pos) → Has c t.arcs → Tells (free c) (Free (JunctionOf m) c)
     told c h = record {
@@ -283,7 +283,7 @@ module _ (t : Arcs) where
 
     pub is_table : IsTableOf m t
     is_table =
-        let all = arcs_that_stand position_cmp order t.arcs m stand in
+        let all = valid_arcs_are_the_maps position_cmp order t.arcs m stand in
         record {
           arcs = all.1;
           free = λ n c e. subst (λ w. Tells (is_loop_if t.loops w) (Free (JunctionOf m) c)) (sym e) (told c (get_has t.arcs n c e));

@@ -10,7 +10,7 @@ use Rattle.chains.specs.Among.{among}
 use Rattle.chains.specs.Table.{is_loop}
 use Rattle.lines.proofs.Dropping.{drop_next}
 use Rattle.chains.proofs.TablesAsMap.{answered, given, unclosed_rest}
-use Rattle.validate.specs.Noding.{arc_inside, inside_if, stands_alone, stands_if}
+use Rattle.validate.specs.Noding.{arc_inside, inside_if, is_valid_arc, stands_if}
 use Rattle.validate.specs.EndTests.{both_are, ends_are, ends_if, is_as}
 use Rattle.validate.specs.declared.end_tests.EndsHaveToBe.{EndsHaveToBe}
 
@@ -48,7 +48,7 @@ pub all_from : {A : Type 0} (f : A → Bool) (l : List A) → ((x : A) → Has x
 all_from f [] h = refl
 all_from f (y ∷ l) h = ap (λ w. w && list_all f l) (h y (inl refl)) ∙ all_from f l (λ x k. h x (inr k))
 
-pub stands_given : (loops : List (List Pos)) (o : Option (List Pos)) → stands_if loops o ≡ answered true (λ c. stands_alone (is_loop loops c) c) o
+pub stands_given : (loops : List (List Pos)) (o : Option (List Pos)) → stands_if loops o ≡ answered true (λ c. is_valid_arc (is_loop loops c) c) o
 stands_given loops None = refl
 stands_given loops (Some c) = refl
 

@@ -10,7 +10,7 @@ use Rattle.theory.proofs.ListsOfLists.{gathered_from}
 use Rattle.theory.proofs.Reversing.{reverse-last}
 use Rattle.theory.proofs.SegmentsOnce.{segments_once}
 use Rattle.theory.proofs.ValidMaps.{ends_list}
-use Rattle.theory.proofs.ValidityProved.{arcs_apart_stand, arcs_of_a_map_that_stand, arcs_that_stand, ring_lists_that_stand}
+use Rattle.theory.proofs.ValidityProved.{noded_arcs_are_valid, arcs_valid_for_a_map_are_its, valid_arcs_are_the_maps, valid_ring_lists_are_the_maps}
 use Rattle.theory.proofs.ValidReads.{least_turned, ring_as_read, runs_line, runs_ring}
 use Rattle.theory.proofs.UsersOfArcs.{partner, partner_back}
 use Rattle.theory.specs.ArcNumbers.{ArcRef, StitchTo, Uses}
@@ -73,13 +73,13 @@ module _ (t : Arcs) (st : ArcsApart position_cmp t.arcs (table_as_map t)) where
   a = table_as_map t
 
   alone : ArcsStand position_cmp t.arcs a
-  alone = arcs_apart_stand position_cmp order t.arcs a st
+  alone = noded_arcs_are_valid position_cmp order t.arcs a st
 
   sound : IsSound a
-  sound = (arcs_that_stand position_cmp order t.arcs a alone).0
+  sound = (valid_arcs_are_the_maps position_cmp order t.arcs a alone).0
 
   all : AreArcsOf position_cmp a t.arcs
-  all = (arcs_that_stand position_cmp order t.arcs a alone).1
+  all = (valid_arcs_are_the_maps position_cmp order t.arcs a alone).1
 
   line_list : (us : List ArcRef) (l : List Pos) → LineStands t.arcs a us → StitchTo t.arcs us l → IsListOfLine t.arcs a l us
   line_list us l k s = record { some = k.some; stitch = s; once = k.once; no_free = k.no_free }
@@ -134,7 +134,7 @@ module _ (t : Arcs) (st : ArcsApart position_cmp t.arcs (table_as_map t)) where
               inr (p.0, us, p.1, ring_list us p.0 (ok.each_ring us h) p.2, u)
 
       told : IsSound g × AreArcsOf position_cmp g t.arcs × Alike a g
-      told = arcs_of_a_map_that_stand position_cmp order t.arcs a g stands
+      told = arcs_valid_for_a_map_are_its position_cmp order t.arcs a g stands
 
       table : IsTableOf g t
       table = record {
@@ -154,7 +154,7 @@ module _ (t : Arcs) (st : ArcsApart position_cmp t.arcs (table_as_map t)) where
           (λ r us h i s.
           let k = ok.each_ring us i in
           subst (λ w. IsRingList position_cmp (JunctionOf g) t.arcs r w) (turned us s.0 k s.2)
-          (ring_lists_that_stand position_cmp order g told.0 t.arcs told.1 r h us (ring_list us r k s)))
+          (valid_ring_lists_are_the_maps position_cmp order g told.0 t.arcs told.1 r h us (ring_list us r k s)))
 
 pub lists_make_a_map : law.ListsMakeAMap
 lists_make_a_map t st lines rings ok = a_map t st lines rings ok

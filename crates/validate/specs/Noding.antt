@@ -43,17 +43,17 @@ begins_least [] = true
 begins_least (x ∷ l) = none_before x l
 
 -- what is looked at in an arc alone
-abbrev pub stands_alone : Bool → List Pos → Bool
-stands_alone free c = cond (is_forward c) (cond free (is_closed position_cmp c && begins_least c) true) false
+abbrev pub is_valid_arc : Bool → List Pos → Bool
+is_valid_arc free c = cond (is_forward c) (cond free (is_closed position_cmp c && begins_least c) true) false
 
 -- the same of an arc of a table, where there is one
 abbrev pub stands_if : List (List Pos) → Option (List Pos) → Bool
 stands_if loops None = true
-stands_if loops (Some c) = stands_alone (is_loop loops c) c
+stands_if loops (Some c) = is_valid_arc (is_loop loops c) c
 
 -- the same of each arc of a table
-abbrev pub each_stands : List (List Pos) → List (List Pos) → Bool
-each_stands loops arcs = list_all (λ c. stands_alone (is_loop loops c) c) arcs
+abbrev pub arcs_are_valid : List (List Pos) → List (List Pos) → Bool
+arcs_are_valid loops arcs = list_all (λ c. is_valid_arc (is_loop loops c) c) arcs
 
 -- the vertices inside an arc, those of a free loop all
 abbrev pub arc_inside : List (List Pos) → List Pos → List Pos

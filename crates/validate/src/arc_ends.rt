@@ -69,7 +69,7 @@ pub(crate) fn all_ends(alloc: Global, table: &ArcTable) -> Result<Vec<Pos>, Allo
 }
 
 /// The vertices of a sorted list, each once less often.
-fn without_firsts(alloc: Global, sorted: &[Pos]) -> Result<Vec<Pos>, AllocError>
+fn repeats_of(alloc: Global, sorted: &[Pos]) -> Result<Vec<Pos>, AllocError>
     ensures { IfOk result (λ v. v.items ≡ spec.again sorted.now) }
 {
     let mut found = Vec::new(alloc);
@@ -96,8 +96,8 @@ pub fn ends_meet(alloc: Global, table: &ArcTable, line_ends: &[Pos]) -> Result<b
 {
     let mut ends = all_ends(alloc, table)?;
     ends.sort_unstable();
-    let twice = without_firsts(alloc, &ends)?;
-    let mut meeting = without_firsts(alloc, &twice)?;
+    let twice = repeats_of(alloc, &ends)?;
+    let mut meeting = repeats_of(alloc, &twice)?;
     meeting.extend_from_slice(line_ends)?;
     meeting.sort_unstable();
     Ok(each_ends(EndsHaveToBe::Among, &meeting, table))

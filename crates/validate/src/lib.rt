@@ -17,8 +17,8 @@ pub mod used_arcs;
 
 pub use arc_ends::{add_line_ends, ends_meet};
 pub use chaining::{ends_along, run};
-pub use lists::{line_run, ring_stands};
+pub use lists::{is_valid_ring, line_run};
 pub use loops::free_loops;
-pub use noding::{arcs_in_order, is_apart};
+pub use noding::{arcs_in_order, is_noded};
 pub use numbered_arcs::NumberedArcs;
 pub use used_arcs::ArcsUsed;

@@ -61,7 +61,7 @@ fn goes_round(table: &ArcTable, refs: &[ArcRef]) -> bool
 /// the first where the last does, none occurs in it twice, and none starts, by its first two vertices,
 /// before the first. Its arcs are added to those that are used.
 #[tactic(auto, using(crate::proofs::Marking::marks_set_long))]
-pub fn ring_stands(table: &ArcTable, used: &mut ArcsUsed, refs: &[ArcRef]) -> bool
+pub fn is_valid_ring(table: &ArcTable, used: &mut ArcsUsed, refs: &[ArcRef]) -> bool
     requires { length used.old ≡ length table.now.arcs }
     ensures stands { (result ≡ true) ↔ RingStands position_cmp table.now.arcs refs.now }
     ensures used { used.new ≡ marks_set true used.old refs.now }

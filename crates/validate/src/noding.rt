@@ -11,7 +11,7 @@ ghost use Rattle.theory.specs.Refinement.{unclosed};
 ghost use Rattle.theory.specs.Validity.{inner_of};
 
 use crate::end_tests::{EndsHaveToBe, each_ends};
-use crate::shared_vertices::elsewhere_too;
+use crate::shared_vertices::vertices_elsewhere;
 use chains::ordered::is_rising;
 use chains::table::ArcTable;
 use faults::OutOfMemory;
@@ -71,8 +71,8 @@ fn begins_least(arc: &[Pos]) -> bool
 
 /// Whether an arc comes before its own reverse and, where it is a free loop, goes round from its least
 /// vertex.
-fn stands_alone(arc: &[Pos], free: bool) -> bool
-    ensures { result ≡ spec.stands_alone free arc.now }
+fn is_valid_arc(arc: &[Pos], free: bool) -> bool
+    ensures { result ≡ spec.is_valid_arc free arc.now }
 {
     if !is_forward(arc) {
         return false;
@@ -83,20 +83,20 @@ fn stands_alone(arc: &[Pos], free: bool) -> bool
     is_closed(arc) && begins_least(arc)
 }
 
-fn arc_stands_alone(table: &ArcTable, number: usize) -> bool
+fn is_valid_arc_at(table: &ArcTable, number: usize) -> bool
     ensures { result ≡ spec.stands_if table.now.loops (slice_get table.now.arcs number) }
 {
     match table.arc(number) {
-        Some(arc) => stands_alone(arc, table.is_free(number)),
+        Some(arc) => is_valid_arc(arc, table.is_free(number)),
         None => true,
     }
 }
 
-fn each_stands(table: &ArcTable) -> bool
-    ensures { result ≡ spec.each_stands table.now.loops table.now.arcs }
+fn arcs_are_valid(table: &ArcTable) -> bool
+    ensures { result ≡ spec.arcs_are_valid table.now.loops table.now.arcs }
 {
     for number in 0..table.len() {
-        if !arc_stands_alone(table, number) {
+        if !is_valid_arc_at(table, number) {
             return false;
         }
     }
@@ -146,14 +146,14 @@ fn all_inside(alloc: Global, table: &ArcTable) -> Result<Vec<Pos>, AllocError>
 ///
 /// # Errors
 /// Where memory is refused.
-pub fn is_apart(alloc: Global, table: &ArcTable) -> Result<bool, OutOfMemory>
+pub fn is_noded(alloc: Global, table: &ArcTable) -> Result<bool, OutOfMemory>
     ensures { IfOk result (λ b. IsApart b table.now) }
 {
-    if !each_stands(table) {
+    if !arcs_are_valid(table) {
         return Ok(false);
     }
     let inside = all_inside(alloc, table)?;
-    let mut few = elsewhere_too(alloc, table, &inside)?;
+    let mut few = vertices_elsewhere(alloc, table, &inside)?;
     few.sort_unstable();
     if has_equal_neighbours(&few) {
         return Ok(false);

@@ -15,7 +15,7 @@ use std::alloc::{AllocError, Global};
 const MET_EACH: usize = 4;
 
 /// Vertices among which is each that is at two places of a list, and few others.
-fn come_again(alloc: Global, vertices: &[Pos]) -> Result<Vec<Pos>, AllocError>
+fn repeated_vertices(alloc: Global, vertices: &[Pos]) -> Result<Vec<Pos>, AllocError>
     ensures { IfOk result (λ v. HasTwice v.items vertices.now) }
 {
     let mut met = PositionFilter::clear(alloc, vertices.len() / MET_EACH)?;
@@ -49,14 +49,14 @@ fn keep_marked(
 
 /// Of the vertices inside the arcs of a table those that are at two places there, those at which an
 /// arc of the table ends, and few others.
-pub(crate) fn elsewhere_too(
+pub(crate) fn vertices_elsewhere(
     alloc: Global,
     table: &ArcTable,
     inside: &[Pos],
 ) -> Result<Vec<Pos>, AllocError>
     ensures { IfOk result (λ v. KeepsElsewhere v.items inside.now table.now.arcs) }
 {
-    let mut watched = come_again(alloc, inside)?;
+    let mut watched = repeated_vertices(alloc, inside)?;
     let mut ends = all_ends(alloc, table)?;
     watched.append(&mut ends)?;
     let bits = PositionFilter::of(alloc, &watched)?;

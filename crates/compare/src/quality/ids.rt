@@ -18,7 +18,7 @@ fn times_in<'a>(counts: &BTreeMap<&'a Id, usize>, id: &'a Id) -> usize
 }
 
 /// Counts an id once more.
-fn note_id<'a>(counts: &mut BTreeMap<&'a Id, usize>, id: &'a Id) -> Result<(), AllocError>
+fn count_id<'a>(counts: &mut BTreeMap<&'a Id, usize>, id: &'a Id) -> Result<(), AllocError>
     requires { times id.now counts.old < 2 ^ 63 }
     ensures { OnOk result ((q : ids.Id) → times q counts.new ≡ times q counts.old + one_if (is_eq (id_cmp q id.now))) }
 {
@@ -33,7 +33,7 @@ fn count_ids(alloc: Global, geometries: &[Geom]) -> Result<BTreeMap<&Id, usize>,
 {
     let mut counts = BTreeMap::new(alloc);
     for number in 0..geometries.len() {
-        note_id(&mut counts, &geometries[number].id)?;
+        count_id(&mut counts, &geometries[number].id)?;
     }
     Ok(counts)
 }

@@ -72,7 +72,7 @@ pub fn count_near<'a>(vertices: &[Vertex<'a>], steps: u32) -> u128
 }
 
 /// Puts the places of two vertices behind the others, where they are near each other.
-fn note_if_near(
+fn add_if_near(
     places: &mut Vec<(NearPlace, NearPlace)>,
     steps: u32,
     one: Vertex,
@@ -87,7 +87,7 @@ fn note_if_near(
 }
 
 /// Puts the places of one vertex and of those behind that are near it behind the places before, up to so many.
-fn note_near<'a>(
+fn add_near<'a>(
     places: &mut Vec<(NearPlace, NearPlace)>,
     most: usize,
     steps: u32,
@@ -106,7 +106,7 @@ fn note_near<'a>(
         if is_past(steps, one, *next) {
             return Ok(());
         }
-        note_if_near(places, steps, one, *next)?;
+        add_if_near(places, steps, one, *next)?;
         left = left_behind(steps, one, *next, rest);
     }
     Ok(())
@@ -126,7 +126,7 @@ pub fn first_near<'a>(
     let mut first = Vec::new(alloc);
     for number in 0..vertices.len() {
         let (_before, behind) = vertices.split_at(number + 1);
-        note_near(&mut first, most, steps, vertices[number], behind)?;
+        add_near(&mut first, most, steps, vertices[number], behind)?;
     }
     Ok(first)
 }

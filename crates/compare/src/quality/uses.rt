@@ -12,7 +12,7 @@ use std::alloc::{AllocError, Global};
 use topo::{Body, Geom, Layer, Topology};
 
 /// Notes that a feature has these positions.
-pub fn note_places(
+pub fn add_places(
     uses: &mut Vec<VertexUse>,
     feature: usize,
     places: &[Pos],
@@ -29,7 +29,7 @@ pub fn note_places(
 }
 
 /// Notes that a feature has the positions along used arcs.
-fn note_line(
+fn add_line(
     uses: &mut Vec<VertexUse>,
     topology: &Topology,
     feature: usize,
@@ -48,7 +48,7 @@ fn note_line(
 }
 
 /// Notes that a feature has the positions of its lines and rings.
-fn note_lists(
+fn add_lists(
     uses: &mut Vec<VertexUse>,
     topology: &Topology,
     feature: usize,
@@ -57,13 +57,13 @@ fn note_lists(
     ensures { OnOk result (uses.new.items ≡ uses.old.items ++ gathered (line_uses topology.now.arcs.arcs feature) (body_lists body.now)) }
 {
     for refs in body.parts() {
-        note_line(uses, topology, feature, refs.as_slice())?;
+        add_line(uses, topology, feature, refs.as_slice())?;
     }
     Ok(())
 }
 
 /// Notes that a feature has the positions of its body.
-fn note_body(
+fn add_body(
     uses: &mut Vec<VertexUse>,
     topology: &Topology,
     feature: usize,
@@ -76,13 +76,13 @@ fn note_body(
             at: *place,
             feature,
         })?),
-        Body::MultiPoint(places) => note_places(uses, feature, places.as_slice()),
-        _ => note_lists(uses, topology, feature, body),
+        Body::MultiPoint(places) => add_places(uses, feature, places.as_slice()),
+        _ => add_lists(uses, topology, feature, body),
     }
 }
 
 /// Puts the geometries of a layer behind those of the layers before it.
-fn note_geometries<'a>(noted: &mut Vec<&'a Geom>, geometries: &'a [Geom]) -> Result<(), AllocError>
+fn add_geometries<'a>(noted: &mut Vec<&'a Geom>, geometries: &'a [Geom]) -> Result<(), AllocError>
     ensures { OnOk result (lent noted.new.items ≡ lent noted.old.items ++ geometries.now) }
 {
     for geometry in geometries {
@@ -97,7 +97,7 @@ fn geometries_in<'a>(alloc: Global, layers: &'a [Layer]) -> Result<Vec<&'a Geom>
 {
     let mut noted = Vec::new(alloc);
     for layer in layers {
-        note_geometries(&mut noted, layer.geometries())?;
+        add_geometries(&mut noted, layer.geometries())?;
     }
     Ok(noted)
 }
@@ -112,7 +112,7 @@ fn uses_by(
 {
     let mut uses = Vec::new(alloc);
     for number in 0..geometries.len() {
-        note_body(&mut uses, topology, number, &geometries[number].body)?;
+        add_body(&mut uses, topology, number, &geometries[number].body)?;
     }
     Ok(uses)
 }

@@ -11,7 +11,7 @@ use Rattle.theory.specs.Lists.{Distinct, Twice, gathered}
 use Rattle.normalize.specs.ArcLists.Labels.{label_at}
 use Rattle.normalize.specs.declared.arc_lists.summaries.ArcSummary.{ArcSummary}
 use Rattle.normalize.specs.declared.arc_lists.verdict.ListVerdict.{ListVerdict}
-use Rattle.normalize.specs.declared.arc_lists.verdict.ListVerdict.TheVariants.{Sound, Broken, Faulty, Tangled, Unknown}
+use Rattle.normalize.specs.declared.arc_lists.verdict.ListVerdict.TheVariants.{Sound, Broken, Faulty, NeedsPositions, NoEnds}
 
 -- ---- what is known of used arcs
 
@@ -103,12 +103,12 @@ pub record AreBroken (arcs : List (List Pos)) (used : List ArcRef) : Type 0 wher
   pub none : (l : List Pos) → ¬ StitchTo arcs used l
 
 -- what is known of used arcs is so [TopoJSON, 2.1.4]
-abbrev pub IsTold : (List Pos → Option ShapeFault) → List (List Pos) → List ArcRef → ListVerdict → Type 0
-IsTold fault arcs used Sound = StitchToFault fault arcs used None
-IsTold fault arcs used Broken = AreBroken arcs used
-IsTold fault arcs used (Faulty f) = StitchToFault fault arcs used (Some f)
-IsTold fault arcs used Tangled = (l : List Pos) × StitchTo arcs used l
-IsTold fault arcs used Unknown = Unit {0}
+abbrev pub IsVerdict : (List Pos → Option ShapeFault) → List (List Pos) → List ArcRef → ListVerdict → Type 0
+IsVerdict fault arcs used Sound = StitchToFault fault arcs used None
+IsVerdict fault arcs used Broken = AreBroken arcs used
+IsVerdict fault arcs used (Faulty f) = StitchToFault fault arcs used (Some f)
+IsVerdict fault arcs used NeedsPositions = (l : List Pos) × StitchTo arcs used l
+IsVerdict fault arcs used NoEnds = Unit {0}
 
 -- what the first stitch to has the faults of something that the others stitch to
 abbrev pub SameFaults : List (List Pos) → List ArcRef → List ArcRef → Type 0

@@ -12,7 +12,7 @@ pub enum ListVerdict {
     Faulty(ShapeFault),
     /// It runs on, but its positions have to be compared: it has arcs that overlap, or are connected by
     /// others that do.
-    Tangled,
+    NeedsPositions,
     /// It has an arc that is not there, or has no position.
-    Unknown,
+    NoEnds,
 }

@@ -11,7 +11,7 @@ ghost use Rattle.theory.specs.Arcs.{AreSortedOnce};
 ghost use Rattle.topo.specs.ItsMap.{ForItsMap};
 
 use crate::fault::QueryFault;
-use crate::uses::{Use, note_geometries};
+use crate::uses::{Use, add_geometries};
 use std::alloc::{AllocError, Global};
 use topo::{Geom, Topology};
 
@@ -27,7 +27,7 @@ fn all_uses(alloc: Global, geometries: &[Geom]) -> Result<Vec<Use>, AllocError>
     ensures { IfOk result (λ v. v.items ≡ geometries_uses geometries.now) }
 {
     let mut uses = Vec::new(alloc);
-    note_geometries(&mut uses, geometries)?;
+    add_geometries(&mut uses, geometries)?;
     Ok(uses)
 }
 
@@ -40,7 +40,7 @@ fn sort_uses(uses: &mut Vec<Use>)
 }
 
 /// Pairs a use with the others of its arc, which are behind it.
-fn note_pairs(pairs: &mut Vec<IndexPair>, user: Use, behind: &[Use]) -> Result<(), AllocError>
+fn add_pairs(pairs: &mut Vec<IndexPair>, user: Use, behind: &[Use]) -> Result<(), AllocError>
     ensures { OnOk result (pairs.new.items ≡ pairs.old.items ++ pairs_behind user behind.now) }
 {
     for other in behind {
@@ -66,7 +66,7 @@ fn all_pairs(alloc: Global, uses: &[Use]) -> Result<Vec<IndexPair>, AllocError>
     let mut pairs = Vec::new(alloc);
     let mut left = uses;
     while let Some((user, behind)) = left.split_first() {
-        note_pairs(&mut pairs, *user, behind)?;
+        add_pairs(&mut pairs, *user, behind)?;
         left = behind;
     }
     Ok(pairs)
@@ -102,7 +102,7 @@ fn empty_lists(alloc: Global, count: usize) -> Result<Vec<Vec<usize>>, AllocErro
 }
 
 /// Puts the other index of a pair at the end of the list of its index.
-fn note_other(lists: &mut Vec<Vec<usize>>, pair: IndexPair) -> Result<(), AllocError>
+fn add_other(lists: &mut Vec<Vec<usize>>, pair: IndexPair) -> Result<(), AllocError>
     ensures { OnOk result (map_list (λ l. l.items) lists.new.items ≡ with_other (map_list (λ l. l.items) lists.old.items) pair) }
 {
     match lists.get_mut(pair.index) {
@@ -121,7 +121,7 @@ pub(crate) fn lists_of(
 {
     let mut lists = empty_lists(alloc, count)?;
     for pair in pairs {
-        note_other(&mut lists, *pair)?;
+        add_other(&mut lists, *pair)?;
     }
     Ok(lists)
 }

@@ -8,7 +8,7 @@ ghost use Rattle.std.specs.FinMap as map;
 ghost use Rattle.std.specs.Prelude.{◌≡◌, ◌↔◌, IfOk, Err, IsTrue, filter, get_or, map as map_list};
 ghost use Rattle.topo.specs.ItsMap.{ForItsMap};
 
-use crate::distinct::note_geometries;
+use crate::distinct::add_geometries;
 use crate::fault::QueryFault;
 use crate::properties::classes_of;
 use crate::questions::neighbors::{IndexPair, lists_of, pairs_of};
@@ -20,7 +20,7 @@ fn classes_in(alloc: Global, geometries: &[Geom], property: &str) -> Result<Vec<
     ensures { IfOk result (λ v. AreClasses (values_of property.now geometries.now) v.items) }
 {
     let mut noted = Vec::new(alloc);
-    note_geometries(&mut noted, geometries)?;
+    add_geometries(&mut noted, geometries)?;
     classes_of(alloc, &noted, property)
 }
 

@@ -2,7 +2,7 @@
 
 use chains::{ArcRef, ArcTable};
 use faults::OutOfMemory;
-use heal_arcs::{Rejoined, rejoin};
+use heal_arcs::{HealedArcs, heal};
 use refused_calls::calls::Lent;
 use refused_calls::comparing::{are_used, same_arcs};
 use refused_calls::inputs::{built, is_of, positions};
@@ -31,13 +31,13 @@ struct Rejoins {
     two: Topology,
     first: Topology,
     fork: Topology,
-    square: Rejoined,
-    line: Rejoined,
+    square: HealedArcs,
+    line: HealedArcs,
 }
 
-fn joined(alloc: Global, table: &ArcTable, kept: &[bool], ends: Places) -> Option<Rejoined> {
+fn joined(alloc: Global, table: &ArcTable, kept: &[bool], ends: Places) -> Option<HealedArcs> {
     let ends = positions(alloc, ends)?;
-    rejoin(alloc, table, kept, ends.as_slice()).ok()
+    heal(alloc, table, kept, ends.as_slice()).ok()
 }
 
 impl Rejoins {
@@ -66,7 +66,7 @@ impl Lent for Rejoins {
 }
 
 fn join(alloc: Global, rejoins: &Rejoins) -> Result<bool, OutOfMemory> {
-    let made = rejoin(alloc, rejoins.two.arcs(), FIRST_ARCS, &[])?;
+    let made = heal(alloc, rejoins.two.arcs(), FIRST_ARCS, &[])?;
     Ok(same_arcs(made.arcs(), rejoins.first.arcs()))
 }
 
@@ -86,9 +86,9 @@ fn ring(alloc: Global, rejoins: &Rejoins) -> Result<bool, OutOfMemory> {
 pub(crate) fn settle(rt: &HostRuntime, tally: &mut Tally) {
     if let Some(rejoins) = tally.lent(rt, "arcs joined again", "their maps", Rejoins::of) {
         calls!(tally.attempt(rt, "arcs joined again", &rejoins);
-            "heal_arcs::rejoin" => join,
-            "Rejoined::line" => line,
-            "Rejoined::ring" => ring,
+            "heal_arcs::heal" => join,
+            "HealedArcs::line" => line,
+            "HealedArcs::ring" => ring,
         );
     }
 }

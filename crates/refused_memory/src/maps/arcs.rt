@@ -12,7 +12,7 @@ use refused_calls::outcome::{Answer, Tally};
 use refused_calls::texts::{FREE_LOOP, LOOP_AND_LINE, SHARED_EDGE};
 use std::alloc::Global;
 use topo::Topology;
-use validate::{free_loops, is_apart};
+use validate::{free_loops, is_noded};
 
 /// A map, the ends of its lines, and for each of its arcs whether it is a free loop.
 #[derive(Clone, Copy)]
@@ -85,7 +85,7 @@ impl Lent for Standing {
 }
 
 fn apart(alloc: Global, table: &ArcTable, standing: &Standing) -> Answer {
-    match is_apart(alloc, table) {
+    match is_noded(alloc, table) {
         Ok(apart) => Answer::of(apart && same_arcs(table, standing.topology.arcs())),
         Err(OutOfMemory) => Answer::Wanting,
     }
@@ -115,7 +115,7 @@ fn mark(alloc: Global, standing: &Standing) -> Answer {
 fn settle_row(rt: &HostRuntime, tally: &mut Tally, row: &'static Row) {
     let made = tally.lent(rt, row.title, "its arcs", |alloc| Standing::of(alloc, row));
     if let Some(standing) = made {
-        calls!(tally.ask(rt, row.title, &standing); "is_apart" => read, "free_loops" => mark);
+        calls!(tally.ask(rt, row.title, &standing); "is_noded" => read, "free_loops" => mark);
     }
 }
 

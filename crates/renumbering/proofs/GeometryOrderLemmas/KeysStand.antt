@@ -67,8 +67,8 @@ module _ (arcs : List (List Pos)) (least : List (Option LeastSteps)) where
   line_stands : (us vs : List ArcRef) → slice_cmp starts (line_key arcs us) (line_key arcs vs) ≡ line_refs_cmp arcs least us vs
   line_stands us vs = lex_map (start_along arcs) starts us vs
 
-  ring_stands : (us vs : List ArcRef) → slice_cmp starts (ring_key arcs least us) (ring_key arcs least vs) ≡ ring_refs_cmp arcs least us vs
-  ring_stands us vs =
+  is_valid_ring : (us vs : List ArcRef) → slice_cmp starts (ring_key arcs least us) (ring_key arcs least vs) ≡ ring_refs_cmp arcs least us vs
+  is_valid_ring us vs =
       ap (ordering_then (starts (lead_of least us).step (lead_of least vs).step))
       (lex_map (start_along arcs) starts (turned us (lead_of least us).behind) (turned vs (lead_of least vs).behind))
 
@@ -76,7 +76,7 @@ module _ (arcs : List (List Pos)) (least : List (Option LeastSteps)) where
   lines_stand ls ks = lex_map (line_key arcs) (slice_cmp starts) ls ks ∙ (λ i. slice_cmp (λ us vs. line_stands us vs i) ls ks)
 
   rings_stand : (ls ks : List (List ArcRef)) → slice_cmp (slice_cmp starts) (map (ring_key arcs least) ls) (map (ring_key arcs least) ks) ≡ slice_cmp (ring_refs_cmp arcs least) ls ks
-  rings_stand ls ks = lex_map (ring_key arcs least) (slice_cmp starts) ls ks ∙ (λ i. slice_cmp (λ us vs. ring_stands us vs i) ls ks)
+  rings_stand ls ks = lex_map (ring_key arcs least) (slice_cmp starts) ls ks ∙ (λ i. slice_cmp (λ us vs. is_valid_ring us vs i) ls ks)
 
   polygons_stand : (ps qs : List (List (List ArcRef))) →
       key_cmp (map (map (ring_key arcs least)) ps) (map (map (ring_key arcs least)) qs) ≡ slice_cmp (slice_cmp (ring_refs_cmp arcs least)) ps qs

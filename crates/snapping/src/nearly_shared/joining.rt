@@ -6,7 +6,7 @@ ghost use Rattle.snapping.specs.NearlyShared.Moved.{Moves, moved_line, moved_rin
 ghost use Rattle.std.specs.Prelude.{◌≡◌, ◌↔◌, IfOk, IsTrue, map};
 
 use crate::nearly_shared::clusters::Clusters;
-use crate::nearly_shared::vertices::note_shape;
+use crate::nearly_shared::vertices::add_uses_of_shape;
 use faults::OutOfMemory;
 use fixing::RawShape;
 use grid::pos::Pos;
@@ -22,7 +22,7 @@ impl Clusters {
         ensures { IfOk result (λ b. IsTrue b ↔ Moves (target_in self.now) shape.now) }
     {
         let mut uses = Vec::new(alloc);
-        note_shape(&mut uses, 0, shape)?;
+        add_uses_of_shape(&mut uses, 0, shape)?;
         for used in &uses {
             if self.target(used.at) != used.at {
                 return Ok(true);

@@ -10,7 +10,7 @@ use std::alloc::{AllocError, Global};
 use std::collections::BTreeMap;
 
 /// Notes that one position is nearly shared with another.
-fn note(
+fn add(
     alloc: Global,
     near: &mut BTreeMap<Pos, Vec<Pos>>,
     one: Pos,
@@ -33,8 +33,8 @@ pub(crate) fn neighbours_of(
 {
     let mut near = BTreeMap::new(alloc);
     for (one, other) in pairs {
-        note(alloc, &mut near, one.at, other.at)?;
-        note(alloc, &mut near, other.at, one.at)?;
+        add(alloc, &mut near, one.at, other.at)?;
+        add(alloc, &mut near, other.at, one.at)?;
     }
     Ok(near)
 }

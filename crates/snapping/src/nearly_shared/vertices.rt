@@ -7,7 +7,7 @@ ghost use Rattle.std.specs.Prelude.{◌≡◌, ◌+◌, ◌++◌, [], length, If
 ghost use Rattle.theory.specs.Lists.{gathered};
 
 use crate::nearly_shared::index::VertexIndex;
-use compare::quality::uses::note_places;
+use compare::quality::uses::add_places;
 use compare::quality::vertex::VertexUse;
 use grid::pos::Pos;
 use lines::items::Items;
@@ -24,25 +24,25 @@ pub struct Vertices {
     features: usize,
 }
 
-fn note_lines(uses: &mut Vec<VertexUse>, feature: usize, lines: &[Line]) -> Result<(), AllocError>
+fn add_lines(uses: &mut Vec<VertexUse>, feature: usize, lines: &[Line]) -> Result<(), AllocError>
     ensures { OnOk result (uses.new.items ≡ uses.old.items ++ gathered (line_uses feature) lines.now) }
 {
     for line in lines {
-        note_places(uses, feature, line.positions())?;
+        add_places(uses, feature, line.positions())?;
     }
     Ok(())
 }
 
-fn note_rings(uses: &mut Vec<VertexUse>, feature: usize, rings: &[Ring]) -> Result<(), AllocError>
+fn add_rings(uses: &mut Vec<VertexUse>, feature: usize, rings: &[Ring]) -> Result<(), AllocError>
     ensures { OnOk result (uses.new.items ≡ uses.old.items ++ gathered (ring_uses feature) rings.now) }
 {
     for ring in rings {
-        note_places(uses, feature, ring.vertices())?;
+        add_places(uses, feature, ring.vertices())?;
     }
     Ok(())
 }
 
-fn note_polygons(
+fn add_polygons(
     uses: &mut Vec<VertexUse>,
     feature: usize,
     polygons: &[Items<Ring>],
@@ -50,13 +50,13 @@ fn note_polygons(
     ensures { OnOk result (uses.new.items ≡ uses.old.items ++ gathered (gathered (ring_uses feature)) polygons.now) }
 {
     for rings in polygons {
-        note_rings(uses, feature, rings.as_slice())?;
+        add_rings(uses, feature, rings.as_slice())?;
     }
     Ok(())
 }
 
 /// Notes that a feature has the vertices of its shape.
-pub(crate) fn note_shape(
+pub(crate) fn add_uses_of_shape(
     uses: &mut Vec<VertexUse>,
     feature: usize,
     shape: &Shape,
@@ -69,11 +69,11 @@ pub(crate) fn note_shape(
             at: *place,
             feature,
         })?),
-        Shape::MultiPoint(places) => note_places(uses, feature, places.as_slice()),
-        Shape::Line(line) => note_places(uses, feature, line.positions()),
-        Shape::MultiLine(lines) => note_lines(uses, feature, lines.as_slice()),
-        Shape::Polygon(rings) => note_rings(uses, feature, rings.as_slice()),
-        Shape::MultiPolygon(polygons) => note_polygons(uses, feature, polygons.as_slice()),
+        Shape::MultiPoint(places) => add_places(uses, feature, places.as_slice()),
+        Shape::Line(line) => add_places(uses, feature, line.positions()),
+        Shape::MultiLine(lines) => add_lines(uses, feature, lines.as_slice()),
+        Shape::Polygon(rings) => add_rings(uses, feature, rings.as_slice()),
+        Shape::MultiPolygon(polygons) => add_polygons(uses, feature, polygons.as_slice()),
     }
 }
 
@@ -94,7 +94,7 @@ impl Vertices {
         ensures uses { OnOk result (self.new.uses.items ≡ self.old.uses.items ++ shape_uses self.old.features shape.now) }
         ensures features { OnOk result (self.new.features ≡ self.old.features + 1) }
     {
-        note_shape(&mut self.uses, self.features, shape)?;
+        add_uses_of_shape(&mut self.uses, self.features, shape)?;
         match self.features.checked_add(1) {
             Some(features) => {
                 self.features = features;

@@ -1,5 +1,5 @@
 //! Lists of indexes of arcs, validated by their arcs.
-ghost use Rattle.normalize.specs.ArcLists.Lists.{IsTold};
+ghost use Rattle.normalize.specs.ArcLists.Lists.{IsVerdict};
 ghost use Rattle.reading.specs.FaultLists.Found.{AtMostOne, pairs_of};
 ghost use Rattle.reading.specs.Fault.{LeastOrWant};
 ghost use Rattle.reading.specs.Outlines.{outline_kind};
@@ -40,13 +40,13 @@ pub struct Known<'a> {
     pub limits: Limits,
 }
 
-fn told_of(
+fn verdict_of(
     alloc: Global,
     lists: &ArcLists,
     kind: OutlineType,
     used: &[ArcRef],
 ) -> Result<ListVerdict, OutOfMemory>
-    ensures { IfOk result (IsTold (fault_of kind) lists.now.arcs.now used.now) }
+    ensures { IfOk result (IsVerdict (fault_of kind) lists.now.arcs.now used.now) }
 {
     match kind {
         OutlineType::Line => lists.line(alloc, used),
@@ -111,7 +111,7 @@ fn judge_tangled(
     kind: OutlineType,
     used: &[ArcRef],
 ) -> Result<(), Fault>
-    requires { IsTold (fault_of kind) lists.now.arcs.now used.now ListVerdict.Tangled }
+    requires { IsVerdict (fault_of kind) lists.now.arcs.now used.now ListVerdict.NeedsPositions }
     ensures ok { OnOk result (used_faults lists.now.arcs.now kind used.now ≡ []) }
     ensures err { IfErr result (λ f. LeastOrWant (used_faults lists.now.arcs.now kind used.now) f) }
 {
@@ -122,14 +122,14 @@ fn judge_tangled(
 }
 
 /// Validates a list of used arcs by what is known of it.
-fn judge_told(
+fn judge_verdict(
     alloc: Global,
     lists: &ArcLists,
     kind: OutlineType,
     used: &[ArcRef],
     told: ListVerdict,
 ) -> Result<(), Fault>
-    requires { IsTold (fault_of kind) lists.now.arcs.now used.now told }
+    requires { IsVerdict (fault_of kind) lists.now.arcs.now used.now told }
     ensures ok { OnOk result (used_faults lists.now.arcs.now kind used.now ≡ []) }
     ensures err { IfErr result (λ f. LeastOrWant (used_faults lists.now.arcs.now kind used.now) f) }
 {
@@ -137,8 +137,8 @@ fn judge_told(
         ListVerdict::Sound => Ok(()),
         ListVerdict::Broken => Err(Fault::here(alloc, FaultKind::Broken)),
         ListVerdict::Faulty(fault) => Err(Fault::here(alloc, kind_of(fault))),
-        ListVerdict::Tangled => judge_tangled(alloc, lists, kind, used),
-        ListVerdict::Unknown => judge_stitched(alloc, lists, kind, used),
+        ListVerdict::NeedsPositions => judge_tangled(alloc, lists, kind, used),
+        ListVerdict::NoEnds => judge_stitched(alloc, lists, kind, used),
     }
 }
 
@@ -152,8 +152,8 @@ pub(crate) fn judge_list(
     ensures ok { OnOk result (used_faults lists.now.arcs.now kind used.now ≡ []) }
     ensures err { IfErr result (λ f. LeastOrWant (used_faults lists.now.arcs.now kind used.now) f) }
 {
-    match told_of(alloc, lists, kind, used) {
-        Ok(told) => judge_told(alloc, lists, kind, used, told),
+    match verdict_of(alloc, lists, kind, used) {
+        Ok(told) => judge_verdict(alloc, lists, kind, used, told),
         Err(OutOfMemory) => Err(Fault::here(alloc, FaultKind::OutOfMemory)),
     }
 }

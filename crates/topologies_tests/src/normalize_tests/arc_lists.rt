@@ -113,21 +113,21 @@ const ROWS: &[Row] = &[
         title: "arcs that have a segment in common have to be compared",
         arcs: &[SIDES, &[(0, 1), (1, 1), (2, 2)]],
         list: &[0, 1],
-        line: ListVerdict::Tangled,
+        line: ListVerdict::NeedsPositions,
         ring: OPEN,
     },
     Row {
         title: "and arcs that another connects",
         arcs: &[SIDES, SIDE, &[(1, 0), (0, 0), (0, 1)]],
         list: &[0, 1],
-        line: ListVerdict::Tangled,
-        ring: ListVerdict::Tangled,
+        line: ListVerdict::NeedsPositions,
+        ring: ListVerdict::NeedsPositions,
     },
     Row {
         title: "an arc that goes back along itself",
         arcs: &[&[(0, 0), (1, 0), (1, 1), (1, 0)]],
         list: &[0],
-        line: ListVerdict::Tangled,
+        line: ListVerdict::NeedsPositions,
         ring: OPEN,
     },
     Row {
@@ -141,8 +141,8 @@ const ROWS: &[Row] = &[
         title: "an arc that is not there",
         arcs: &[SIDE],
         list: &[0, 1],
-        line: ListVerdict::Unknown,
-        ring: ListVerdict::Unknown,
+        line: ListVerdict::NoEnds,
+        ring: ListVerdict::NoEnds,
     },
 ];
 
@@ -154,7 +154,7 @@ fn is_told(alloc: Global, row: &Row) -> Result<bool, Fail> {
 }
 
 #[test]
-fn lists_told(rt: HostRuntime) -> Result<(), Fail> {
+fn verdicts_of_lists(rt: HostRuntime) -> Result<(), Fail> {
     for row in ROWS {
         assert!(rt; is_told(rt.alloc(), row)?, "{}", row.title);
     }

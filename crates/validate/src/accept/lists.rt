@@ -5,7 +5,7 @@ ghost use Rattle.validate.specs.Accept.Added.{AreAdded};
 ghost use Rattle.validate.specs.Accept.Lists.{layers_lines, layers_rings, lines_of, rings_of};
 ghost use Rattle.topo.specs.BodyLists.{body_lines, body_rings};
 
-use crate::{ArcsUsed, ends_meet, line_run, ring_stands};
+use crate::{ArcsUsed, ends_meet, is_valid_ring, line_run};
 use chains::table::{ArcRef, ArcTable};
 use faults::OutOfMemory;
 use grid::pos::Pos;
@@ -39,7 +39,7 @@ impl ListsSeen {
         requires { length self.old.used ≡ length table.now.arcs }
         ensures { AreAdded table.now [] (refs.now ∷ []) result self.old self.new }
     {
-        ring_stands(table, &mut self.used, refs)
+        is_valid_ring(table, &mut self.used, refs)
     }
 
     fn add_lines(&mut self, table: &ArcTable, body: &Body) -> Result<bool, AllocError>
@@ -107,7 +107,11 @@ impl ListsSeen {
 ///
 /// # Errors
 /// Where memory is refused.
-pub fn lists_stand(alloc: Global, table: &ArcTable, layers: &[Layer]) -> Result<bool, OutOfMemory>
+pub fn lists_are_valid(
+    alloc: Global,
+    table: &ArcTable,
+    layers: &[Layer],
+) -> Result<bool, OutOfMemory>
     ensures { IfOk result (λ b. (b ≡ true) ↔ ListsStand table.now (layers_lines layers.now) (layers_rings layers.now)) }
 {
     let used = ArcsUsed::none(alloc, table.len())?;

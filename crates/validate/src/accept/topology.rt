@@ -11,8 +11,8 @@ ghost use Rattle.topo.specs.OfMap.{ArePartsOf, IsOf};
 
 use crate::accept::order::in_order;
 use crate::accept::text_arcs::TextArcs;
-use crate::accept::{line_ends, lists_stand};
-use crate::{arcs_in_order, free_loops, is_apart};
+use crate::accept::{line_ends, lists_are_valid};
+use crate::{arcs_in_order, free_loops, is_noded};
 use chains::table::ArcTable;
 use faults::OutOfMemory;
 use grid::Grid;
@@ -46,15 +46,19 @@ fn table_of(alloc: Global, arcs: Vec<Items<Pos>>, layers: &[Layer]) -> Result<Ar
 
 /// Whether layers are in order over the arcs of a table, which are in order. The lists are validated first,
 /// by the ends of the arcs alone, and only where they are valid all other vertices are.
-fn stand_in_order(alloc: Global, table: &ArcTable, layers: &[Layer]) -> Result<bool, OutOfMemory>
+fn are_valid_in_order(
+    alloc: Global,
+    table: &ArcTable,
+    layers: &[Layer],
+) -> Result<bool, OutOfMemory>
     requires sorted { Ascends list_cmp table.now.arcs }
     requires ids { HaveI64 layers.now }
     ensures { IfOk result (λ b. (b ≡ true) ↔ StandInOrder table.now layers.now) }
 {
-    if !lists_stand(alloc, table, layers)? {
+    if !lists_are_valid(alloc, table, layers)? {
         return Ok(false);
     }
-    if !is_apart(alloc, table)? {
+    if !is_noded(alloc, table)? {
         return Ok(false);
     }
     in_order(alloc, table, layers)
@@ -77,7 +81,7 @@ fn of_table(
     ensures stand { IfOk result (λ o. IsWhole o ↔ StandInOrder table layers.items) }
     ensures back { IfOk result (λ o. IfNot o (λ cs ls. (cs ≡ table.arcs) × (ls ≡ layers.items))) }
 {
-    if !stand_in_order(alloc, &table, &layers)? {
+    if !are_valid_in_order(alloc, &table, &layers)? {
         let arcs = TextArcs::from_table(table);
         return Ok(Accepted::Not { arcs, layers });
     }

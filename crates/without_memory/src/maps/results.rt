@@ -2,7 +2,7 @@
 
 use chains::ArcRef;
 use grid::Grid;
-use heal_arcs::{Rejoined, rejoin};
+use heal_arcs::{HealedArcs, heal};
 use merging::Shard;
 use refine::remove::remove;
 use refine::{Cut, Edit, Removal, Session, Whole};
@@ -21,7 +21,7 @@ use std::alloc::Global;
 #[derive(Drop)]
 pub(crate) struct Results {
     recut: Recut,
-    rejoined: Rejoined,
+    rejoined: HealedArcs,
     removal: Removal,
 }
 
@@ -32,9 +32,9 @@ fn cut_again(alloc: Global) -> Option<Recut> {
 }
 
 /// What is left of the arcs of two squares where the second goes.
-fn joined_again(alloc: Global) -> Option<Rejoined> {
+fn joined_again(alloc: Global) -> Option<HealedArcs> {
     let two = built(alloc, SHARED_EDGE)?;
-    rejoin(alloc, two.arcs(), &[true, true, false], &[]).ok()
+    heal(alloc, two.arcs(), &[true, true, false], &[]).ok()
 }
 
 /// Two squares without the second.
@@ -57,7 +57,7 @@ fn has_cut(recut: &Recut) -> bool {
         && recut.pieces(Side::Right, 1).is_none()
 }
 
-fn has_joined(rejoined: &Rejoined) -> bool {
+fn has_joined(rejoined: &HealedArcs) -> bool {
     is_list(rejoined.pieces(0), &[0, -2]) && rejoined.pieces(1).is_none()
 }
 
@@ -71,7 +71,7 @@ fn has_arcs(recut: Recut) -> bool {
 }
 
 /// The one arc, and the run of old ones that it is made of.
-fn has_run(rejoined: Rejoined) -> bool {
+fn has_run(rejoined: HealedArcs) -> bool {
     let (arcs, runs) = rejoined.into_parts();
     match runs.as_slice() {
         [run] => arcs.len() == 1 && run.as_slice().len() == 2,
@@ -88,8 +88,8 @@ impl Results {
         rows!(rt, tally;
             "Recut::arcs" => self.recut.arcs().len() == 6,
             "Recut::pieces" => has_cut(&self.recut),
-            "Rejoined::arcs" => self.rejoined.arcs().len() == 1,
-            "Rejoined::pieces" => has_joined(&self.rejoined),
+            "HealedArcs::arcs" => self.rejoined.arcs().len() == 1,
+            "HealedArcs::pieces" => has_joined(&self.rejoined),
             "Removal::topology" => is_of(self.removal.topology(), FIRST),
             "Removal::pieces" => has_old_arcs(&self.removal),
         );
@@ -119,7 +119,7 @@ impl Handed for Results {
         let is_first = is_first(removal);
         rows!(rt, tally;
             "Recut::into_arcs" => has_arcs,
-            "Rejoined::into_parts" => has_run,
+            "HealedArcs::into_parts" => has_run,
             "ArcRun::as_slice" => has_run,
             "Removal::into_topology" => is_first,
         );

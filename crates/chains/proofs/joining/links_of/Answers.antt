@@ -8,7 +8,7 @@ use Rattle.chains.proofs.joining.links_of.Goals as goal
 pub loop-segment-preserved : goal.loop-segment-preserved
 loop-segment-preserved c = λ q.
     let at : (Pos × Pos) → Type 0 = λ e.
-    links_in c.note-in-loop-segment.new.links q
+    links_in c.link-in-loop-segment.new.links q
     ≡ noted c.args.stops.now q (noted c.args.stops.now q (links_in c.loop-segment.links q) e.0 e.1) e.1 e.0 in
     let made : at c.ends.result =
     c.in_ok-note-2.ensures q

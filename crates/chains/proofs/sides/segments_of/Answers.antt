@@ -5,9 +5,9 @@ use Rattle.chains.proofs.sides.segments_of.Goals as goal
 
 pub loop-number-preserved : goal.loop-number-preserved
 loop-number-preserved c = λ u v.
-    step_arcs c.loop-number.segments.items c.note_number.new.segments.items c.args.arcs.now.arcs (get_or c.args.chosen.now c.loop-number.number-index 0) (drop c.loop-number.number-index c.args.chosen.now)
+    step_arcs c.loop-number.segments.items c.add_numbered_arc.new.segments.items c.args.arcs.now.arcs (get_or c.args.chosen.now c.loop-number.number-index 0) (drop c.loop-number.number-index c.args.chosen.now)
     (drop (c.loop-number.number-index + 1) c.args.chosen.now) _ u v
-    (drop_more c.args.chosen.now c.loop-number.number-index 0 c.loop-number-test.true) (c.in_ok-note_number.ensures u v)
+    (drop_more c.args.chosen.now c.loop-number.number-index 0 c.loop-number-test.true) (c.in_ok-add_numbered_arc.ensures u v)
     (c.loop-number.invariant u v)
 
 pub returns : goal.returns

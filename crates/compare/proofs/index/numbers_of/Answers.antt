@@ -8,5 +8,5 @@ loop-number-init c = known_none c.args.geometries.now c.new-numbers.result c.new
 
 pub loop-number-preserved : goal.loop-number-preserved
 loop-number-preserved c =
-    c.in_ok-note_geometry.ensures c.args.geometries.now
+    c.in_ok-add_geometry.ensures c.args.geometries.now
     (item_at c.args.geometries.now c.loop-number.number c.index-geometries-number.result c.loop-number-test.true c.index-geometries-number.is) c.loop-number.invariant

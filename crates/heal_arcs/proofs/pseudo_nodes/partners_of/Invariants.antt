@@ -1,5 +1,5 @@
 use Rattle.std.proofs.Common.{length}
-use Rattle.heal_arcs.specs.ByUse.{noted_of}
+use Rattle.heal_arcs.specs.ArcUseMap.{noted_of}
 use Rattle.heal_arcs.specs.PseudoNodes.{AreGrouped}
 use Rattle.heal_arcs.proofs.Pairing.{Paired}
 use Rattle.heal_arcs.proofs.pseudo_nodes.partners_of.Given as goal

@@ -10,8 +10,8 @@ use Rattle.query.specs.Members.{held, layer_pairs}
 use Rattle.query.proofs.Holding.{all_gathered, layers_step, members_by, scope_layers, scope_pairs}
 use Rattle.query.proofs.members.members_of.Goals as goal
 
-pub note_layer-requires : goal.note_layer-requires
-note_layer-requires c =
+pub add_layer-requires : goal.add_layer-requires
+add_layer-requires c =
     let (m, of) = c.requires in
     let ls = c.in_ok-layers.layers.now in
     let l = c.layer-item.result in
@@ -25,8 +25,8 @@ pub loop-layer-preserved : goal.loop-layer-preserved
 loop-layer-preserved c = λ m of.
     let ls = c.in_ok-layers.layers.now in
     layers_step m c.args.topology.now of ls (scope_layers c.args.topology.now _ ls c.in_ok-layers.ensures.layers) c.loop-layer.layer-index c.layer-item.result
-    c.geometries.result.now c.geometries.ensures c.loop-layer.members.items c.note_layer.new.members.items _ c.loop-layer-test.true c.layer-item.is
-    c.in_ok-note_layer.ensures (c.loop-layer.invariant m of)
+    c.geometries.result.now c.geometries.ensures c.loop-layer.members.items c.add_layer.new.members.items _ c.loop-layer-test.true c.layer-item.is
+    c.in_ok-add_layer.ensures (c.loop-layer.invariant m of)
 
 pub returns-clause-members : goal.returns-clause-members
 returns-clause-members c = λ m of.

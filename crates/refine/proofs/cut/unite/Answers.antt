@@ -13,8 +13,8 @@ layers_of_both-requires c =
       right = right_has cut _ _ c.into_parts-left_arcs.ensures.of_map.1 c.into_parts-right_arcs.ensures.of_map.1;
     }
 
-pub from_unmeasured_parts-requires : goal.from_unmeasured_parts-requires
-from_unmeasured_parts-requires c =
+pub from_parts_without_bbox-requires : goal.from_parts_without_bbox-requires
+from_parts_without_bbox-requires c =
     let cut =
     are_cut c.into_parts-left_arcs.ensures.arcs c.into_parts-right_arcs.ensures.arcs c.into_parts-left_arcs.ensures.layers c.into_parts-right_arcs.ensures.layers c.in_ok-cut.ensures.refined
     c.into_arcs-arcs.ensures c.in_ok-lefts.ensures.left c.in_ok-lefts.ensures.right in (
@@ -27,4 +27,4 @@ returns-clause-of_map c = λ m n hm hn.
     let cut =
     are_cut c.into_parts-left_arcs.ensures.arcs c.into_parts-right_arcs.ensures.arcs c.into_parts-left_arcs.ensures.layers c.into_parts-right_arcs.ensures.layers c.in_ok-cut.ensures.refined
     c.into_arcs-arcs.ensures c.in_ok-lefts.ensures.left c.in_ok-lefts.ensures.right in
-    c.from_unmeasured_parts.ensures.of_map (union m n) (parts_are cut m n hm hn c.in_ok-layers.layers.items c.in_ok-layers.ensures)
+    c.from_parts_without_bbox.ensures.of_map (union m n) (parts_are cut m n hm hn c.in_ok-layers.layers.items c.in_ok-layers.ensures)

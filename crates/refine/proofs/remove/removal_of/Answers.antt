@@ -7,8 +7,8 @@ use Rattle.renumbering.specs.LayerLaws.Less.{layer_rejoined, less}
 use Rattle.refine.proofs.LeftTold.{made_of, parts_made, pieces_made}
 use Rattle.refine.proofs.remove.removal_of.Goals as goal
 
-pub from_unmeasured_parts-topology-requires : goal.from_unmeasured_parts-topology-requires
-from_unmeasured_parts-topology-requires c =
+pub from_parts_without_bbox-topology-requires : goal.from_parts_without_bbox-topology-requires
+from_parts_without_bbox-topology-requires c =
     let (m, h) = c.arcs.ensures.of_map in
     let (r, stay) = c.requires in
     let made =
@@ -23,12 +23,12 @@ returns-clause-of_map c = λ m r stay h.
     let made =
     made_of {r = r} {stay = c.args.left.now} stay c.arcs.ensures.arcs refl c.in_ok-kept.ensures refl c.in_ok-ends.ensures c.arcs-2.ensures.arcs c.deref.ensures.value
     c.deref-2.ensures.value c.in_ok-joined.ensures.refined in
-    c.from_unmeasured_parts-topology.ensures.of_map (less m r) (parts_made made m h c.into_parts-arcs.result.0 c.in_ok-layers.layers.items c.into_parts-arcs.ensures.arcs c.in_ok-layers.ensures)
+    c.from_parts_without_bbox-topology.ensures.of_map (less m r) (parts_made made m h c.into_parts-arcs.result.0 c.in_ok-layers.layers.items c.into_parts-arcs.ensures.arcs c.in_ok-layers.ensures)
 
 pub returns-clause-pieces : goal.returns-clause-pieces
 returns-clause-pieces c = λ m r stay h.
     let made =
     made_of {r = r} {stay = c.args.left.now} stay c.arcs.ensures.arcs refl c.in_ok-kept.ensures refl c.in_ok-ends.ensures c.arcs-2.ensures.arcs c.deref.ensures.value
     c.deref-2.ensures.value c.in_ok-joined.ensures.refined in
-    pieces_made made m h c.from_unmeasured_parts-topology.result.arcs.arcs c.into_parts-arcs.result.1.items (ap (λ a. a.arcs) (c.from_unmeasured_parts-topology.ensures.arcs ∙ c.into_parts-arcs.ensures.arcs))
+    pieces_made made m h c.from_parts_without_bbox-topology.result.arcs.arcs c.into_parts-arcs.result.1.items (ap (λ a. a.arcs) (c.from_parts_without_bbox-topology.ensures.arcs ∙ c.into_parts-arcs.ensures.arcs))
     c.into_parts-arcs.ensures.pieces

@@ -10,8 +10,8 @@ use Rattle.split_arcs.proofs.Parted.{AreNumbered, all_pieces, enough, first_refs
 use Rattle.split_arcs.proofs.TwoTables.{recut_is}
 use Rattle.split_arcs.proofs.split.recut_owned.Goals as goal
 
-pub lists_apart-requires : goal.lists_apart-requires
-lists_apart-requires c =
+pub lists_without_shared_segments-requires : goal.lists_without_shared_segments-requires
+lists_without_shared_segments-requires c =
     let js = c.in_ok-cuts.cuts.index in
     let marks = c.in_ok-cuts.cuts.left.items in
     let others = c.in_ok-cuts.cuts.right.items in

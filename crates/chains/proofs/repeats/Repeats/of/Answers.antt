@@ -8,5 +8,5 @@ pub returns : goal.returns
 returns c =
     let seams = c.args.seams.now in
     let all = noted_in c.args.inner.now seams in
-    all_noted c.note_visits.new.self all
-    (c.note_visits.ensures all [] (c.note_inner.ensures all (seams ++ []) (none_noted _ (gathered visits_at c.args.inner.now) seams)))
+    all_noted c.add_visits.new.self all
+    (c.add_visits.ensures all [] (c.add_inner.ensures all (seams ++ []) (none_noted _ (gathered visits_at c.args.inner.now) seams)))

@@ -6,8 +6,8 @@ use Rattle.compare.proofs.quality.ids.count_ids.Goals as goal
 pub loop-number-init : goal.loop-number-init
 loop-number-init c = λ q. count_none c.new-counts.result q c.new-counts.ensures.empty
 
-pub note_id-requires : goal.note_id-requires
-note_id-requires c =
+pub count_id-requires : goal.count_id-requires
+count_id-requires c =
     let x = (get_or c.args.geometries.now c.loop-number.number c.index-geometries-number.result).id in
     let l : length c.args.geometries.now < 2 ^ 63 = search rules in
     small c.loop-number.counts x c.args.geometries.now c.loop-number.number (c.loop-number.invariant x) c.loop-number-test.true l
@@ -17,4 +17,4 @@ loop-number-preserved c = λ q.
     let x = (get_or c.args.geometries.now c.loop-number.number c.index-geometries-number.result).id in
     count_more c.args.geometries.now c.loop-number.number (c.loop-number.number + 1) c.index-geometries-number.result x _ _ q (omega arith)
     (item_at c.args.geometries.now c.loop-number.number c.index-geometries-number.result c.loop-number-test.true c.index-geometries-number.is)
-    (ap (λ w. w.id) c.index-geometries-number.is) (c.in_ok-note_id.ensures q) (c.loop-number.invariant q)
+    (ap (λ w. w.id) c.index-geometries-number.is) (c.in_ok-count_id.ensures q) (c.loop-number.invariant q)

@@ -7,8 +7,8 @@ use Rattle.compare.proofs.QualityLemmas.Nearness.{left_ascends}
 use Rattle.compare.proofs.QualityLemmas.Walking.{noted_more, take_few, take_most}
 use Rattle.compare.proofs.quality.pairs.first_near.Goals as goal
 
-pub note_near-requires-clause-ascend : goal.note_near-requires-clause-ascend
-note_near-requires-clause-ascend c =
+pub add_near-requires-clause-ascend : goal.add_near-requires-clause-ascend
+add_near-requires-clause-ascend c =
     let is = drop_item c.args.vertices.now c.loop-number.number c.index-vertices-number.result c.loop-number-test.true c.index-vertices-number.is in
     subst (λ l. Ascend (c.index-vertices-number.result ∷ l)) (sym c.split_at.ensures.back) (subst Ascend is (left_ascends c.args.vertices.now c.loop-number.number c.requires))
 
@@ -16,12 +16,12 @@ pub loop-number-preserved : goal.loop-number-preserved
 loop-number-preserved c =
     let is = drop_item c.args.vertices.now c.loop-number.number c.index-vertices-number.result c.loop-number-test.true c.index-vertices-number.is in
     let made =
-    c.in_ok-note_near.ensures
+    c.in_ok-add_near.ensures
     ∙ ap (λ l. take c.args.most (c.loop-number.first.items ++ map (places_at c.index-vertices-number.result) (near_to c.args.steps c.index-vertices-number.result l))) c.split_at.ensures.back in
     record {
       kept =
           noted_more c.args.most c.args.steps c.index-vertices-number.result (drop c.loop-number.number c.args.vertices.now) (drop (c.loop-number.number + 1) c.args.vertices.now)
-          c.loop-number.first.items c.note_near.new.places.items is made ∙ c.loop-number.invariant.kept;
+          c.loop-number.first.items c.add_near.new.places.items is made ∙ c.loop-number.invariant.kept;
       few =
           subst (λ l. length l ≤ c.args.most) (sym made)
           (take_most c.args.most (c.loop-number.first.items

@@ -1,7 +1,7 @@
 use Rattle.std.proofs.Common.{◌↔◌, subst, rules}
 use Rattle.std.specs.List.Sorted.{IsPermutation}
 use Rattle.theory.specs.Lists.{Has}
-use Rattle.heal_arcs.specs.ByUse.{noted_of}
+use Rattle.heal_arcs.specs.ArcUseMap.{noted_of}
 use Rattle.heal_arcs.proofs.Pairing.{meeting_told}
 use Rattle.heal_arcs.proofs.pseudo_nodes.PseudoNodes.of.Goals as goal
 

@@ -7,7 +7,7 @@ use Rattle.snapping.proofs.nearly_shared.neighbours.neighbours_of.Goals as goal
 pub loop-one-preserved : goal.loop-one-preserved
 loop-one-preserved c =
     one_more_noted c.args.pairs.now (drop c.loop-one.one-index c.args.pairs.now) (drop (c.loop-one.one-index + 1) c.args.pairs.now)
-    c.loop-one-item.result.0 c.loop-one-item.result.1 c.loop-one.near c.note.new.near c.note-in-loop-one.new.near
+    c.loop-one-item.result.0 c.loop-one-item.result.1 c.loop-one.near c.add.new.near c.add-in-loop-one.new.near
     (drop_item c.args.pairs.now c.loop-one.one-index c.loop-one-item.result c.loop-one-test.true c.loop-one-item.is)
     c.in_ok-note.ensures c.in_ok-note-2.ensures c.loop-one.invariant
 

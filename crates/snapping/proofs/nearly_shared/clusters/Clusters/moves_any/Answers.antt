@@ -22,7 +22,7 @@ loop-used-preserved c = λ u h n.
 pub returns-then-ne : goal.returns-then-ne
 returns-then-ne c =
     let all : c.deref-used-items.result.now ≡ shape_uses 0 c.args.shape.now =
-    c.deref-used-items.ensures.value ∙ c.in_ok-note_shape.ensures ∙ ap (λ l. l ++ shape_uses 0 c.args.shape.now) c.new-uses.ensures.items in
+    c.deref-used-items.ensures.value ∙ c.in_ok-add_uses_of_shape.ensures ∙ ap (λ l. l ++ shape_uses 0 c.args.shape.now) c.new-uses.ensures.items in
     let there = get_has c.deref-used-items.result.now c.loop-used.used-index c.used-item.result
     (item_at c.deref-used-items.result.now c.loop-used.used-index c.used-item.result c.loop-used-test.true c.used-item.is) in
     ((λ t. (c.used-item.result, subst (Has c.used-item.result) all there, λ e. apart_is c.target.result c.used-item.result.at c.if-ne.ensures (c.target.ensures ∙ e))), λ m. refl)
@@ -30,5 +30,5 @@ returns-then-ne c =
 pub returns : goal.returns
 returns c =
     let all : c.deref-used-items.result.now ≡ shape_uses 0 c.args.shape.now =
-    c.deref-used-items.ensures.value ∙ c.in_ok-note_shape.ensures ∙ ap (λ l. l ++ shape_uses 0 c.args.shape.now) c.new-uses.ensures.items in
+    c.deref-used-items.ensures.value ∙ c.in_ok-add_uses_of_shape.ensures ∙ ap (λ l. l ++ shape_uses 0 c.args.shape.now) c.new-uses.ensures.items in
     ((λ t. absurd (let k : false ≡ true = t in cc)), λ m. absurd (none_left m.0 c.deref-used-items.result.now c.loop-used.used-index c.loop-used-test.false (c.loop-used.invariant m.0 (subst (Has m.0) (sym all) m.1) m.2)))

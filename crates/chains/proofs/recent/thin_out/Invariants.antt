@@ -1,6 +1,0 @@
-use Rattle.std.proofs.Common.{◌++◌, drop}
-use Rattle.chains.specs.Visits.{HaveSame}
-use Rattle.chains.proofs.recent.thin_out.Given as goal
-
-abbrev pub invariant-loop-position : goal.invariant-loop-position
-invariant-loop-position l = HaveSame (l.noted.positions.items ++ drop l.position-index l.positions) l.positions

@@ -1,9 +1,0 @@
-use Rattle.std.proofs.Common.{ap}
-use Rattle.compare.specs.Indexed.{standing_after}
-use Rattle.compare.proofs.index.standing_with.Goals as goal
-
-pub returns-in-Some : goal.returns-in-Some
-returns-in-Some c = ap (standing_after c.args.number) c.in-Some.ensures.value
-
-pub returns-in-None : goal.returns-in-None
-returns-in-None c = ap (standing_after c.args.number) c.in-None.ensures.value

@@ -1,6 +1,0 @@
-use Rattle.compare.specs.Indexed.{standings_of}
-use Rattle.compare.specs.Keyed.{keys_in}
-use Rattle.compare.proofs.index.standings_in.Given as goal
-
-abbrev pub invariant-loop-number : goal.invariant-loop-number
-invariant-loop-number l = standings_of (keys_in l.fn.keys) l.number l.standings

@@ -1,6 +1,0 @@
-use Rattle.std.proofs.Common.{◌≡◌, ◌++◌, drop}
-use Rattle.query.specs.EachOnce.{lent}
-use Rattle.query.proofs.distinct.note_geometries.Given as goal
-
-abbrev pub invariant-loop-geometry : goal.invariant-loop-geometry
-invariant-loop-geometry l = lent l.noted.items ++ drop l.geometry-index l.fn.geometries ≡ lent l.fn.noted.items ++ l.fn.geometries

@@ -1,7 +1,0 @@
-use Rattle.query.proofs.Ending.{two_ends}
-use Rattle.query.proofs.ends.note_ends.Goals as goal
-
-pub returns : goal.returns
-returns c =
-    two_ends c.note_end-2.result c.args.ends.now.items c.note_end.new.ends.items c.note_end-2.new.ends.items c.args.arc.now c.first_end.result c.last_end.result
-    c.first_end.ensures c.last_end.ensures c.in_ok-note_end.ensures c.note_end-2.ensures
