@@ -7,7 +7,7 @@ use Rattle.validate.specs.Chaining.{ends_along, first_end}
 use Rattle.topo.specs.Parts.{LayerParts}
 use Rattle.topo.specs.declared.geom.Geom.{Geom}
 use Rattle.validate.specs.Accept.Lists.{layers_lines}
-use Rattle.topo.specs.BodyLists.{body_lines, body_rings}
+use Rattle.topo.specs.BodyLists.{body_lists}
 
 -- where there is one
 abbrev pub alone : {A : Type 0} → Option A → List A
@@ -27,9 +27,9 @@ list_ends arcs (a ∷ used) = start_along arcs a ++ start_along arcs (flipped (l
 abbrev pub layer_ends : List (List Pos) → List LayerParts → List Pos
 layer_ends arcs ls = gathered (list_ends arcs) (layers_lines ls)
 
--- the list of each line of a geometry, and of each ring
+-- the list of each line or ring of a geometry
 abbrev pub geometry_lists : Geom → List (List ArcRef)
-geometry_lists g = body_lines g.body ++ body_rings g.body
+geometry_lists g = body_lists g.body
 
 -- those of a layer's geometries
 abbrev pub layer_lists : LayerParts → List (List ArcRef)

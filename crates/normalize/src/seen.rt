@@ -2,16 +2,14 @@
 ghost use Rattle.normalize.specs.Seen as spec;
 ghost use Rattle.normalize.specs.Seen.{geometry_lists, layer_ends, layer_lists};
 ghost use Rattle.normalize.specs.Used.{lists_marked};
-ghost use Rattle.validate.specs.UsedArcs.{marks_set};
-ghost use Rattle.std.specs.Prelude.{◌≡◌, ◌++◌, [], IfOk, OnOk, false, length, replicate, true};
+ghost use Rattle.std.specs.Prelude.{◌≡◌, ◌++◌, [], IfOk, OnOk, false, length, replicate};
 ghost use Rattle.validate.specs.Accept.Lists.{layers_lines, lines_of};
-ghost use Rattle.topo.specs.BodyLists.{body_lines, body_rings};
+ghost use Rattle.topo.specs.BodyLists.{body_lines};
 ghost use Rattle.theory.specs.Lists.{gathered};
 
-use crate::used::{mark_each, mark_lists, mark_polygons};
+use crate::used::mark_body;
 use chains::ArcRef;
 use grid::pos::Pos;
-use lines::items::Items;
 use std::alloc::{AllocError, Global};
 use topo::{Body, Geom, Layer};
 use validate::accept::TextArcs;
@@ -44,6 +42,16 @@ fn add_list_ends(ends: &mut Vec<Pos>, arcs: &TextArcs, refs: &[ArcRef]) -> Resul
     Ok(())
 }
 
+/// Adds where the lines of a body begin and end.
+fn add_body_ends(ends: &mut Vec<Pos>, arcs: &TextArcs, body: &Body) -> Result<(), AllocError>
+    ensures { OnOk result (ends.new.items ≡ ends.old.items ++ gathered (spec.list_ends arcs.now) (body_lines body.now)) }
+{
+    for refs in body.lines() {
+        add_list_ends(ends, arcs, refs.as_slice())?;
+    }
+    Ok(())
+}
+
 /// Which arcs the lists of layers use, and the vertices where lines begin and end.
 #[derive(Drop)]
 pub(crate) struct ArcsSeen {
@@ -62,44 +70,13 @@ impl ArcsSeen {
         Ok(ArcsSeen { used, ends })
     }
 
-    fn add_line(&mut self, arcs: &TextArcs, refs: &[ArcRef]) -> Result<(), AllocError>
-        ensures used { OnOk result (self.new.used.items ≡ marks_set true self.old.used.items refs.now) }
-        ensures ends { OnOk result (self.new.ends.items ≡ self.old.ends.items ++ spec.list_ends arcs.now refs.now) }
-    {
-        mark_each(&mut self.used, refs);
-        add_list_ends(&mut self.ends, arcs, refs)
-    }
-
-    fn add_lines(&mut self, arcs: &TextArcs, lists: &[Items<ArcRef>]) -> Result<(), AllocError>
-        ensures used { OnOk result (self.new.used.items ≡ lists_marked self.old.used.items lists.now) }
-        ensures ends { OnOk result (self.new.ends.items ≡ self.old.ends.items ++ gathered (spec.list_ends arcs.now) lists.now) }
-    {
-        for refs in lists {
-            self.add_line(arcs, refs.as_slice())?;
-        }
-        Ok(())
-    }
-
-    fn add_body(&mut self, arcs: &TextArcs, body: &Body) -> Result<(), AllocError>
-        ensures used { OnOk result (self.new.used.items ≡ lists_marked (lists_marked self.old.used.items (body_lines body.now)) (body_rings body.now)) }
-        ensures ends { OnOk result (self.new.ends.items ≡ self.old.ends.items ++ gathered (spec.list_ends arcs.now) (body_lines body.now)) }
-    {
-        match body {
-            Body::Null | Body::Point(_) | Body::MultiPoint(_) => {}
-            Body::Line(refs) => self.add_line(arcs, refs.as_slice())?,
-            Body::MultiLine(lists) => self.add_lines(arcs, lists.as_slice())?,
-            Body::Polygon(lists) => mark_lists(&mut self.used, lists.as_slice()),
-            Body::MultiPolygon(polygons) => mark_polygons(&mut self.used, polygons.as_slice()),
-        }
-        Ok(())
-    }
-
     fn add_geometries(&mut self, arcs: &TextArcs, geometries: &[Geom]) -> Result<(), AllocError>
         ensures used { OnOk result (self.new.used.items ≡ lists_marked self.old.used.items (gathered geometry_lists geometries.now)) }
         ensures ends { OnOk result (self.new.ends.items ≡ self.old.ends.items ++ gathered (spec.list_ends arcs.now) (lines_of geometries.now)) }
     {
         for geometry in geometries {
-            self.add_body(arcs, &geometry.body)?;
+            mark_body(&mut self.used, &geometry.body);
+            add_body_ends(&mut self.ends, arcs, &geometry.body)?;
         }
         Ok(())
     }

@@ -11,7 +11,7 @@ use grid::Grid;
 use grid::pos::Pos;
 use lines::items::Items;
 use std::alloc::{AllocError, Global};
-use topo::{Body, Geom, Layer, Topology};
+use topo::{Geom, Layer, Topology};
 use validate::accept::TextArcs;
 
 /// A table in which each stretch of the arcs of a text is an arc once, and for each arc of the text its
@@ -22,20 +22,13 @@ pub(crate) struct Split {
     pub(crate) pieces: Vec<Items<ArcRef>>,
 }
 
-fn joined_lists(alloc: Global, lists: &[Items<ArcRef>]) -> Result<Vec<ArcRef>, AllocError> {
+/// The used arcs of a geometry's lines, one after the other.
+fn refs_of(alloc: Global, geometry: &Geom) -> Result<Vec<ArcRef>, AllocError> {
     let mut refs = Vec::new(alloc);
-    for list in lists {
+    for list in geometry.body.lines() {
         refs.extend_from_slice(list.as_slice())?;
     }
     Ok(refs)
-}
-
-/// The used arcs of a geometry's lines, one after the other.
-fn refs_of(alloc: Global, geometry: &Geom) -> Result<Vec<ArcRef>, AllocError> {
-    match &geometry.body {
-        Body::MultiLine(lists) => joined_lists(alloc, lists.as_slice()),
-        _ => Ok(Vec::new(alloc)),
-    }
 }
 
 /// Whether the first of some geometries is that of the arc of a number.

@@ -2,10 +2,10 @@
 ghost use Rattle.normalize.specs.Used.{lists_marked};
 ghost use Rattle.validate.specs.UsedArcs.{marks_set};
 ghost use Rattle.std.specs.Prelude.{◌≡◌, set, true};
-ghost use Rattle.theory.specs.Lists.{joined};
+ghost use Rattle.topo.specs.BodyLists.{body_lists};
 
 use chains::ArcRef;
-use lines::items::Items;
+use topo::Body;
 
 fn mark(marks: &mut Vec<bool>, arc: usize)
     ensures { marks.new.items ≡ set marks.old.items arc true }
@@ -15,7 +15,7 @@ fn mark(marks: &mut Vec<bool>, arc: usize)
     }
 }
 
-pub(crate) fn mark_each(marks: &mut Vec<bool>, refs: &[ArcRef])
+fn mark_each(marks: &mut Vec<bool>, refs: &[ArcRef])
     ensures { marks.new.items ≡ marks_set true marks.old.items refs.now }
 {
     for used in refs {
@@ -23,18 +23,10 @@ pub(crate) fn mark_each(marks: &mut Vec<bool>, refs: &[ArcRef])
     }
 }
 
-pub(crate) fn mark_lists(marks: &mut Vec<bool>, lists: &[Items<ArcRef>])
-    ensures { marks.new.items ≡ lists_marked marks.old.items lists.now }
+pub(crate) fn mark_body(marks: &mut Vec<bool>, body: &Body)
+    ensures { marks.new.items ≡ lists_marked marks.old.items (body_lists body.now) }
 {
-    for refs in lists {
+    for refs in body.parts() {
         mark_each(marks, refs.as_slice());
-    }
-}
-
-pub(crate) fn mark_polygons(marks: &mut Vec<bool>, polygons: &[Items<Items<ArcRef>>])
-    ensures { marks.new.items ≡ lists_marked marks.old.items (joined polygons.now) }
-{
-    for lists in polygons {
-        mark_lists(marks, lists.as_slice());
     }
 }
