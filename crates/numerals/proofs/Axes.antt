@@ -5,7 +5,7 @@ use Rattle.std.proofs.lemmas.Int.{ints, to_z-of_z, unsigned_abs-mul}
 use Rattle.std.proofs.lemmas.Nat.{mul-le}
 use Rattle.std.specs.Int.Signed.{lt_z}
 use Rattle.std.specs.Int.{w128}
-use Rattle.std.specs.Prelude.{unsigned_abs}
+use Rattle.std.specs.Prelude.{FitsSigned, unsigned_abs}
 use Rattle.std.specs.Str.Parse.{starts_with_minus}
 use Rattle.fast_float.proofs.ExactLemmas.{ten_to_pos}
 use Rattle.fast_float.specs.Text.{with_sign}
@@ -53,10 +53,14 @@ pub sign_by : (z : ℤ) → z ≡ with_sign (lt_z z (pos 0)) (unsigned_abs z)
 sign_by (pos n) = let e : nat_lt n 0 ≡ false = grind (arith, nat_tests) in ap (λ b. with_sign b n) (sym e)
 sign_by (negsuc n) = refl
 
--- a number of so few digits is itself as a number of 128 bits
+-- a number of so few digits fits 128 bits
+pub fits_wide : (z : ℤ) → unsigned_abs z < 10 ^ 38 → FitsSigned w128 z
+fits_wide (pos n) h = record { sfits = omega (arith, ints, h) }
+fits_wide (negsuc n) h = record { sfits = omega (arith, ints, h) }
+
+-- and is itself there
 pub wide : (z : ℤ) → unsigned_abs z < 10 ^ 38 → to_z w128 (of_z w128 z) ≡ z
-wide (pos n) h = to_z-of_z w128 (pos n) (record { sfits = omega (arith, ints, h) })
-wide (negsuc n) h = to_z-of_z w128 (negsuc n) (record { sfits = omega (arith, ints, h) })
+wide z h = to_z-of_z w128 z (fits_wide z h)
 
 module _ (a : Axis) (n : ℤ) (h : IsAxis a) (g : IsGridNumber n) where
   pub product_bound : unsigned_abs (n *ℤ a.scale) ≤ 2 ^ 40 * 10 ^ 25
