@@ -11,8 +11,8 @@ loop-segment-preserved c = λ q.
     links_in c.link-in-loop-segment.new.links q
     ≡ noted c.args.stops.now q (noted c.args.stops.now q (links_in c.loop-segment.links q) e.0 e.1) e.1 e.0 in
     let made : at c.ends.result =
-    c.in_ok-note-2.ensures q
-    ∙ ap (λ o. noted c.args.stops.now q o c.ends.result.1 c.ends.result.0) (c.in_ok-note.ensures q) in
+    c.in_ok-link-2.ensures q
+    ∙ ap (λ o. noted c.args.stops.now q o c.ends.result.1 c.ends.result.0) (c.in_ok-link.ensures q) in
     ap (λ o. noted_all c.args.stops.now q o (drop (c.loop-segment.segment-index + 1) c.args.segments.now)) (subst at c.ends.ensures made)
     ∙ ap (noted_all c.args.stops.now q (links_in c.loop-segment.links q))
     (sym (drop_item c.args.segments.now c.loop-segment.segment-index c.segment-item.result c.loop-segment-test.true c.segment-item.is))

@@ -4,4 +4,4 @@ use Rattle.chains.proofs.Same.{same_step}
 use Rattle.chains.proofs.recent.dedup_recent.Goals as goal
 
 pub loop-position-preserved : goal.loop-position-preserved
-loop-position-preserved c = same_step _ c.in_ok-note.ensures c.loop-position.invariant (grind (arith, common_steps))
+loop-position-preserved c = same_step _ c.in_ok-insert.ensures c.loop-position.invariant (grind (arith, common_steps))

@@ -11,8 +11,8 @@ loop-window-preserved c =
     let rest = inner_of (take (length left - 1) (drop 1 left)) in
     record {
       visits =
-          same_step rest c.in_ok-note.ensures.visits c.loop-window.invariant.visits
+          same_step rest c.in_ok-insert.ensures.visits c.loop-window.invariant.visits
           (ap (λ l. visits_noted c.loop-window.self ++ l) (inner_step left c.in-Some.window.now (omega (arith, c.in-Some.ensures.cases.2)) c.in-Some.ensures.cases.0)
           ∙ sym (append_assoc (visits_noted c.loop-window.self) (inner_of c.in-Some.window.now) rest));
-      ends = c.in_ok-note.ensures.ends ∙ c.loop-window.invariant.ends;
+      ends = c.in_ok-insert.ensures.ends ∙ c.loop-window.invariant.ends;
     }

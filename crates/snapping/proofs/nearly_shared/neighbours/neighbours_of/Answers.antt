@@ -9,7 +9,7 @@ loop-one-preserved c =
     one_more_noted c.args.pairs.now (drop c.loop-one.one-index c.args.pairs.now) (drop (c.loop-one.one-index + 1) c.args.pairs.now)
     c.loop-one-item.result.0 c.loop-one-item.result.1 c.loop-one.near c.add.new.near c.add-in-loop-one.new.near
     (drop_item c.args.pairs.now c.loop-one.one-index c.loop-one-item.result c.loop-one-test.true c.loop-one-item.is)
-    c.in_ok-note.ensures c.in_ok-note-2.ensures c.loop-one.invariant
+    c.in_ok-add.ensures c.in_ok-add-2.ensures c.loop-one.invariant
 
 pub returns : goal.returns
 returns c =
