@@ -11,6 +11,6 @@ pub mod shard;
 mod z_order;
 
 pub use fault::{JoinFault, MergeFault, PlanFault};
-pub use merge::{merge_all, merge_all_borrowed, merge_as};
+pub use merge::{merge_all, merge_as};
 pub use plan::{Plan, first_bad_leaf, named_indexes, run_plan};
 pub use shard::Shard;

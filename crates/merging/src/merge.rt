@@ -1,6 +1,6 @@
 //! Merging texts of topologies.
 ghost use Rattle.merging.specs.Leaves.{leaves, first_outside};
-ghost use Rattle.merging.specs.Merge.{all_indexes, bytes_of, lent_texts, AreKept, IsFaultOf, IsGridOf, IsReadFault, IsRefusalOf, IsMergeFault, IsMergeOf, IsUnionOf, MeansUnion};
+ghost use Rattle.merging.specs.Merge.{all_indexes, bytes_of, AreKept, IsFaultOf, IsGridOf, IsReadFault, IsRefusalOf, IsMergeFault, IsMergeOf, IsUnionOf, MeansUnion};
 ghost use Rattle.merging.specs.Naming.{AreMarksOf};
 ghost use Rattle.merging.specs.Plans as stated;
 ghost use Rattle.merging.specs.Plans.{off_grid};
@@ -129,8 +129,14 @@ fn merge_marked<S: Shard, T: AsSlice<u8> + Drop>(
     }
 }
 
-// `merge_all` of texts that are owned or borrowed.
-fn merge_list<S: Shard, T: AsSlice<u8> + Drop>(
+/// The shard of the union of the features of all texts, owned or borrowed; `None` exactly where there is no text. They
+/// are joined by halves, along a Z-order curve, whatever their order in the list, which makes no difference to what the
+/// shard means. Each text is dropped once it is read, so the memory of an owned one is free for what follows.
+///
+/// # Errors
+/// `Text` with the first text of the list that is refused, and its first error; otherwise `OtherGrid` with the first
+/// text whose transform differs from that of text 0.
+pub fn merge_all<S: Shard, T: AsSlice<u8> + Drop>(
     alloc: Global,
     texts: Vec<T>,
 ) -> Result<Option<S>, MergeFault>
@@ -143,32 +149,6 @@ fn merge_list<S: Shard, T: AsSlice<u8> + Drop>(
     let marks = vec![in alloc; true; texts.len()]?;
     let shard = merge_marked(alloc, texts, &marks)?;
     Ok(Some(shard))
-}
-
-/// The shard of the union of the features of all texts; `None` exactly where there is no text. They are joined by
-/// halves, along a Z-order curve, whatever their order in the list, which makes no difference to what the shard
-/// means. Each text is dropped once it is read, so its memory is free for what follows. For texts that you keep, call
-/// `merge_all_borrowed`.
-///
-/// # Errors
-/// `Text` with the first text of the list that is refused, and its first error; otherwise `OtherGrid` with the first
-/// text whose transform differs from that of text 0.
-pub fn merge_all<S: Shard>(alloc: Global, texts: Vec<Vec<u8>>) -> Result<Option<S>, MergeFault>
-    ensures fault { IfErr result (IsMergeFault (bytes_of texts.items) (all_indexes texts.items)) }
-    ensures merged { IfOk result (λ o. MatchOption o (length texts.items ≡ 0) (λ s. IsUnionOf (bytes_of texts.items) (all_indexes texts.items) (S.grid_of s) (S.map_of s))) }
-{
-    merge_list(alloc, texts)
-}
-
-/// `merge_all` of borrowed texts: none is copied, and all stay in memory to the end.
-///
-/// # Errors
-/// As `merge_all`.
-pub fn merge_all_borrowed<S: Shard>(alloc: Global, texts: &[&[u8]]) -> Result<Option<S>, MergeFault>
-    ensures fault { IfErr result (IsMergeFault (lent_texts texts.now) (all_indexes texts.now)) }
-    ensures merged { IfOk result (λ o. MatchOption o (length texts.now ≡ 0) (λ s. IsUnionOf (lent_texts texts.now) (all_indexes texts.now) (S.grid_of s) (S.map_of s))) }
-{
-    merge_list(alloc, borrow_texts(alloc, texts)?)
 }
 
 /// The canonical text of the union of the features of the texts that the plan names, merged over shards of a chosen

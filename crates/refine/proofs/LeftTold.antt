@@ -1,5 +1,5 @@
 -- The marks and the ends that are noted of the geometries that stay tell what is left of a topology, and the joined arcs are its parts.
-use Rattle.std.proofs.Common.{◌≡◌, ℕ, ◌<◌, Bool, true, false, List, [], ◌∷◌, ◌++◌, inl, inr, ◌↔◌, Some, length, replicate, refl, sym, ap, ◌∙◌, subst}
+use Rattle.std.proofs.Common.{◌≡◌, ℕ, ◌<◌, Bool, true, false, List, [], ◌∷◌, ◌++◌, inl, inr, ◌↔◌, Some, length, replicate, refl, sym, ap, ◌∙◌, subst, append-nil}
 use Rattle.std.specs.Prelude.{map as map_list, slice_get}
 use Rattle.std.proofs.lemmas.Option.{slice_get_within}
 use Rattle.grid.specs.declared.pos.Pos.{Pos}
@@ -18,10 +18,11 @@ use Rattle.theory.specs.Lists.{EndOf, Has, Pairwise, gathered, joined}
 use Rattle.theory.specs.Refinement.{ArePiecesOfArc, IsPartOf}
 use Rattle.theory.specs.Healing.{AreStarts, EndsInLayers, IsKept, IsLineEnd}
 use Rattle.theory.specs.Validity.{InLayers}
-use Rattle.theory.specs.Topology.{IsGeometryOf, IsLayerOf, IsRingList, lines_in}
+use Rattle.theory.specs.Topology.{IsGeometryOf, IsLayerOf, IsRingList, lines_in, rings_in}
 use Rattle.theory.specs.Users.{UsesArc}
 use Rattle.theory.proofs.ArcNumbers.{taken_of, to_from, uses_along}
 use Rattle.theory.proofs.GroupedPieces.{uses_parts}
+use Rattle.theory.proofs.Lists.{Has-append, Has-append_left, Has-append_right}
 use Rattle.theory.proofs.ListsOfLists.{Has-gathered, Has-map, gathered_from, map_has}
 use Rattle.theory.proofs.ProvedLaws as law
 use Rattle.theory.proofs.RefinementLaws.{pieces_unique}
@@ -33,6 +34,7 @@ use Rattle.heal_arcs.specs.Parts.{RejoinedParts}
 use Rattle.heal_arcs.specs.Healing.{IsLeftBy, IsRejoinedOf}
 use Rattle.heal_arcs.specs.Starts.{starts_by}
 use Rattle.heal_arcs.proofs.Begun.{starts_are}
+use Rattle.topo.specs.BodyLists.{body_lines, body_lists}
 use Rattle.topo.specs.OfMap.{ArePartsOf, IsOf, body_of, item_of, layer_of}
 use Rattle.topo.specs.Parts.{LayerParts, TopologyParts}
 use Rattle.topo.specs.Walked.{walked}
@@ -43,7 +45,8 @@ use Rattle.topo.proofs.Sound.{are_sound}
 use Rattle.topo.proofs.Walks.{walked_stitched}
 use Rattle.renumbering.specs.LayerLaws.Leaving.{layer_less}
 use Rattle.refine.specs.Lent.{all_lent}
-use Rattle.renumbering.specs.LayerLaws.LeftLists.{body_ends, body_refs, both_ends, layer_ends, layer_refs, layers_ends, layers_refs, line_ends, marked_by}
+use Rattle.renumbering.specs.LayerLaws.LeftLists.{both_ends, line_ends, marked_by}
+use Rattle.refine.specs.LeftLists.{body_ends, body_refs, layer_ends, layer_refs, layers_ends, layers_refs}
 use Rattle.refine.specs.declared.remove.LayerLeft.{LayerLeft}
 use Rattle.renumbering.specs.LayerLaws.Less.{layer_rejoined, layers_left, less, marks_of}
 use Rattle.refine.specs.Removals.{AreJoinedOf}
@@ -90,31 +93,29 @@ joined_uses k (y ∷ ls) u =
       | inr v ↦ (let t = joined_uses k ls v in (t.0, inr t.1, t.2))
     ]
 
+-- the lists of a body are those of its lines, then those of its rings
+both_kinds : (b : bodies.Body) → body_lists b ≡ lines_in (body_of b) ++ rings_in (body_of b)
+both_kinds to.Null = refl
+both_kinds (to.Point p) = refl
+both_kinds (to.MultiPoint ps) = refl
+both_kinds (to.Line used) = refl
+both_kinds (to.MultiLine ls) = sym (append-nil ls)
+both_kinds (to.Polygon rs) = refl
+both_kinds (to.MultiPolygon ps) = refl
+
 body_uses : (k : ℕ) (b : bodies.Body) → Uses k (body_refs b) → UsesArc k (body_of b)
-body_uses k to.Null u = absurd u
-body_uses k (to.Point p) u = absurd u
-body_uses k (to.MultiPoint ps) u = absurd u
-body_uses k (to.Line used) u = inl (used, inl refl, u)
-body_uses k (to.MultiLine ls) u = inl (joined_uses k ls u)
-body_uses k (to.Polygon rs) u = inr (joined_uses k rs u)
-body_uses k (to.MultiPolygon ps) u = inr (joined_uses k (joined ps) u)
+body_uses k b u =
+    let (us, h, w) = joined_uses k (body_lists b) u in
+    elim (Has-append us (lines_in (body_of b)) (rings_in (body_of b)) (subst (Has us) (both_kinds b) h)) [
+      | inl i ↦ inl (us, i, w)
+      | inr i ↦ inr (us, i, w)
+    ]
 
 uses_body : (k : ℕ) (b : bodies.Body) → UsesArc k (body_of b) → Uses k (body_refs b)
-uses_body k to.Null (inl (us, h, u)) = absurd h
-uses_body k to.Null (inr (us, h, u)) = absurd h
-uses_body k (to.Point p) (inl (us, h, u)) = absurd h
-uses_body k (to.Point p) (inr (us, h, u)) = absurd h
-uses_body k (to.MultiPoint ps) (inl (us, h, u)) = absurd h
-uses_body k (to.MultiPoint ps) (inr (us, h, u)) = absurd h
-uses_body k (to.Line used) (inl (us, inl e, u)) = subst (Uses k) e u
-uses_body k (to.Line used) (inl (us, inr h, u)) = absurd h
-uses_body k (to.Line used) (inr (us, h, u)) = absurd h
-uses_body k (to.MultiLine ls) (inl (us, h, u)) = uses_joined k ls us h u
-uses_body k (to.MultiLine ls) (inr (us, h, u)) = absurd h
-uses_body k (to.Polygon rs) (inl (us, h, u)) = absurd h
-uses_body k (to.Polygon rs) (inr (us, h, u)) = uses_joined k rs us h u
-uses_body k (to.MultiPolygon ps) (inl (us, h, u)) = absurd h
-uses_body k (to.MultiPolygon ps) (inr (us, h, u)) = uses_joined k (joined ps) us h u
+uses_body k b (inl (us, h, u)) =
+    uses_joined k (body_lists b) us (subst (Has us) (sym (both_kinds b)) (Has-append_left us (lines_in (body_of b)) (rings_in (body_of b)) h)) u
+uses_body k b (inr (us, h, u)) =
+    uses_joined k (body_lists b) us (subst (Has us) (sym (both_kinds b)) (Has-append_right us (lines_in (body_of b)) (rings_in (body_of b)) h)) u
 
 -- the arcs that are noted of layers are those that their geometries use
 noted_are_used : (ls : List LayerParts) (k : ℕ) → Uses k (layers_refs ls) → InLayers (map_list layer_of ls) k
@@ -156,26 +157,16 @@ end_is_noted v l h = subst (Has v) (sym (both_are l)) (ends_has v l h)
 noted_is_end : (v : Pos) (l : List Pos) → Has v (both_ends l) → EndOf v l
 noted_is_end v l h = has_ends v l (subst (Has v) (both_are l) h)
 
+lines_are : (b : bodies.Body) → body_lines b ≡ lines_in (body_of b)
+lines_are to.Null = refl
+lines_are (to.Point p) = refl
+lines_are (to.MultiPoint ps) = refl
+lines_are (to.Line used) = refl
+lines_are (to.MultiLine ls) = refl
+lines_are (to.Polygon rs) = refl
+lines_are (to.MultiPolygon ps) = refl
+
 module _ (arcs : List (List Pos)) where
-  body_line : (v : Pos) (b : bodies.Body) → Has v (body_ends arcs b) → (used : List ArcRef) × Has used (lines_in (body_of b)) × Has v (line_ends arcs used)
-  body_line v to.Null h = absurd h
-  body_line v (to.Point p) h = absurd h
-  body_line v (to.MultiPoint ps) h = absurd h
-  body_line v (to.Line used) h = (used, inl refl, h)
-  body_line v (to.MultiLine ls) h = gathered_from (line_ends arcs) ls v h
-  body_line v (to.Polygon rs) h = absurd h
-  body_line v (to.MultiPolygon ps) h = absurd h
-
-  line_body : (v : Pos) (b : bodies.Body) (used : List ArcRef) → Has used (lines_in (body_of b)) → Has v (line_ends arcs used) → Has v (body_ends arcs b)
-  line_body v to.Null used h e = absurd h
-  line_body v (to.Point p) used h e = absurd h
-  line_body v (to.MultiPoint ps) used h e = absurd h
-  line_body v (to.Line us) used (inl q) e = subst (λ w. Has v (line_ends arcs w)) q e
-  line_body v (to.Line us) used (inr h) e = absurd h
-  line_body v (to.MultiLine ls) used h e = Has-gathered (line_ends arcs) ls used v h e
-  line_body v (to.Polygon rs) used h e = absurd h
-  line_body v (to.MultiPolygon ps) used h e = absurd h
-
   -- each list of a line stitches
   abbrev Stitched : List LayerParts → Type 0
   Stitched ls = (l : LayerParts) → Has l ls → (g : Geom) → Has g l.geometries → (used : List ArcRef) → Has used (lines_in (body_of g.body)) → (c : List Pos) × StitchTo arcs used c
@@ -184,14 +175,15 @@ module _ (arcs : List (List Pos)) where
   noted_are_ends ls st v h =
       let l = gathered_from (layer_ends arcs) ls v h in
       let g = gathered_from (λ z. body_ends arcs z.body) l.0.geometries v l.2 in
-      let u = body_line v g.0.body g.2 in
-      let c = st l.0 l.1 g.0 g.1 u.0 u.1 in (
+      let u = gathered_from (line_ends arcs) (body_lines g.0.body) v g.2 in
+      let w = subst (Has u.0) (lines_are g.0.body) u.1 in
+      let c = st l.0 l.1 g.0 g.1 u.0 w in (
         layer_of l.0,
         Has-map layer_of ls l.0 l.1,
         item_of g.0,
         Has-map item_of l.0.geometries g.0 g.1,
         u.0,
-        u.1,
+        w,
         list_ends arcs u.0 c.0 c.1 v (subst (EndOf v) (walked_stitched arcs u.0 c.0 c.1) (noted_is_end v (walked arcs u.0) u.2)),
       )
 
@@ -203,7 +195,8 @@ module _ (arcs : List (List Pos)) where
       let c = st l.0 l.1 g.0 g.1 used w in
       Has-gathered (layer_ends arcs) ls l.0 v l.1
       (Has-gathered (λ z. body_ends arcs z.body) l.0.geometries g.0 v g.1
-      (line_body v g.0.body used w (end_is_noted v (walked arcs used) (subst (EndOf v) (sym (walked_stitched arcs used c.0 c.1)) (ends_list arcs used c.0 c.1 v e)))))
+      (Has-gathered (line_ends arcs) (body_lines g.0.body) used v (subst (Has used) (sym (lines_are g.0.body)) w)
+      (end_is_noted v (walked arcs used) (subst (EndOf v) (sym (walked_stitched arcs used c.0 c.1)) (ends_list arcs used c.0 c.1 v e)))))
 
 -- ---- what `remove` has before it puts the new topology together
 

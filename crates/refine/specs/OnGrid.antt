@@ -1,5 +1,5 @@
 -- A map on a grid, as a shard is seen.
-use Rattle.std.specs.Prelude.{◌≡◌, ℤ, ◌<◌, ◌^◌, length}
+use Rattle.std.specs.Prelude.{ℤ, ◌<◌, ◌^◌, length}
 use Rattle.std.specs.Coded.{Coded, code_by, coded×, coded_list, coded_ℕ, coded_ℤ}
 use Rattle.std.proofs.Common.{refl}
 use Rattle.std.specs.FinMap as map

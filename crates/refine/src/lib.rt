@@ -11,8 +11,6 @@ pub mod laws;
 pub mod merge;
 pub mod remove;
 pub mod session;
-mod stitches;
-mod walked_list;
 pub mod whole;
 
 pub use cut_shard::Cut;

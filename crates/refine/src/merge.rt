@@ -10,7 +10,7 @@ ghost use Rattle.topo_io.specs.TopologyText.{topology_text};
 use crate::cut_shard::Cut;
 use crate::fault::MergeFault;
 use merging::Plan;
-pub use merging::merge::{merge_all, merge_all_borrowed, merge_as};
+pub use merging::merge::{merge_all, merge_as};
 use std::alloc::Global;
 use topo::Topology;
 
@@ -69,5 +69,8 @@ pub fn merge_borrowed_topologies(
     ensures merged { IfOk result (λ o. MatchOption o (length texts.now ≡ 0) (IsTopologyOfUnion (lent_texts texts.now) (all_indexes texts.now))) }
     ensures text { IfOk result (λ o. IfSome o (λ t. IsMergeOf (lent_texts texts.now) (all_indexes texts.now) (topology_text (seen_parts t)))) }
 {
-    Ok(topology_of_union(merge_all_borrowed(alloc, texts)?))
+    match merge_all(alloc, texts.to_vec(alloc)?) {
+        Ok(shard) => Ok(topology_of_union(shard)),
+        Err(fault) => Err(fault),
+    }
 }

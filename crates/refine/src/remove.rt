@@ -1,12 +1,12 @@
 //! Taking features out of a topology: the geometries that stay keep their arcs, which are joined again
-//! where no junction is left. A geometry is known by its id and properties and by a walk along its arcs.
+//! where no junction is left. A geometry is stitched only where a removed feature has its id and properties.
 ghost use Rattle.renumbering.specs.LayerLaws.Leaving.{from_on, is_first, layer_less, order_to, others};
-ghost use Rattle.renumbering.specs.LayerLaws.LeftLists as left_lists;
-ghost use Rattle.renumbering.specs.LayerLaws.LeftLists.{layers_refs, marked_by};
+ghost use Rattle.renumbering.specs.LayerLaws.LeftLists.{line_ends as ends_of_line, marked_by};
 ghost use Rattle.renumbering.specs.LayerLaws.Less as rejoined;
 ghost use Rattle.renumbering.specs.LayerLaws.Less.{less};
 ghost use Rattle.lines.specs.Turned.{position_cmp};
 ghost use Rattle.merging.specs.declared.fault.JoinFault.TheVariants.{OtherGrid};
+ghost use Rattle.refine.specs.LeftLists.{body_ends, body_refs, layer_ends, layer_refs, layers_ends, layers_refs};
 ghost use Rattle.refine.specs.Lent.{all_lent, lent};
 ghost use Rattle.refine.specs.Removals.{IsWithoutBy};
 ghost use Rattle.heal_arcs.specs.Starts.{starts_by};
@@ -23,7 +23,6 @@ ghost use Rattle.topo.specs.OfMap.{IsOf};
 use crate::cut::on_one_grid;
 use crate::difference::layers_without;
 use crate::fault::JoinFault;
-use crate::stitches::stitches_to;
 use chains::table::{ArcRef, ArcTable};
 use faults::OutOfMemory;
 use grid::Pos;
@@ -93,7 +92,7 @@ pub(crate) struct LayerLeft<'a> {
 }
 
 /// The order of a geometry's feature to another one. It is stitched only where ids and properties
-/// tie and the shapes differ, and then kept.
+/// tie, and then kept.
 fn order_of(
     alloc: Global,
     topology: &Topology,
@@ -112,9 +111,6 @@ fn order_of(
         .then(geometry.props.cmp(&other.props));
     if order.is_ne() {
         return Ok(order);
-    }
-    if stitches_to(topology, &geometry.body, &other.shape) {
-        return Ok(Ordering::Equal);
     }
     let feature = stitching::known_feature(alloc, topology.arcs(), geometry, known.take())?;
     let stitched = feature.cmp(other);
@@ -243,7 +239,7 @@ fn mark_list(kept: &mut [bool], used: &[ArcRef])
 }
 
 fn mark_body(kept: &mut [bool], body: &Body)
-    ensures { kept.new ≡ marked_by kept.old (left_lists.body_refs body.now) }
+    ensures { kept.new ≡ marked_by kept.old (body_refs body.now) }
 {
     for used in body.parts() {
         mark_list(kept, used.as_slice());
@@ -251,7 +247,7 @@ fn mark_body(kept: &mut [bool], body: &Body)
 }
 
 fn mark_layer(kept: &mut [bool], layer: &LayerLeft)
-    ensures { kept.new ≡ marked_by kept.old (left_lists.layer_refs (lent layer.now)) }
+    ensures { kept.new ≡ marked_by kept.old (layer_refs (lent layer.now)) }
 {
     for geometry in &layer.geometries {
         mark_body(kept, &geometry.body);
@@ -280,7 +276,7 @@ fn add_ends_of_line(
     topology: &Topology,
     used: &[ArcRef],
 ) -> Result<(), OutOfMemory>
-    ensures { OnOk result (ends.new.items ≡ ends.old.items ++ left_lists.line_ends topology.now.arcs.arcs used.now) }
+    ensures { OnOk result (ends.new.items ≡ ends.old.items ++ ends_of_line topology.now.arcs.arcs used.now) }
 {
     let mut walk = topology.walk(used);
     let Some(first) = walk.next() else {
@@ -299,7 +295,7 @@ fn add_ends_of_body(
     topology: &Topology,
     body: &Body,
 ) -> Result<(), OutOfMemory>
-    ensures { OnOk result (ends.new.items ≡ ends.old.items ++ left_lists.body_ends topology.now.arcs.arcs body.now) }
+    ensures { OnOk result (ends.new.items ≡ ends.old.items ++ body_ends topology.now.arcs.arcs body.now) }
 {
     for used in body.lines() {
         add_ends_of_line(ends, topology, used.as_slice())?;
@@ -312,7 +308,7 @@ fn add_ends_of_layer(
     topology: &Topology,
     layer: &LayerLeft,
 ) -> Result<(), OutOfMemory>
-    ensures { OnOk result (ends.new.items ≡ ends.old.items ++ left_lists.layer_ends topology.now.arcs.arcs (lent layer.now)) }
+    ensures { OnOk result (ends.new.items ≡ ends.old.items ++ layer_ends topology.now.arcs.arcs (lent layer.now)) }
 {
     for geometry in &layer.geometries {
         add_ends_of_body(ends, topology, &geometry.body)?;
@@ -326,7 +322,7 @@ fn line_ends(
     topology: &Topology,
     layers: &[LayerLeft],
 ) -> Result<Vec<Pos>, OutOfMemory>
-    ensures { IfOk result (λ v. v.items ≡ left_lists.layers_ends topology.now.arcs.arcs (all_lent layers.now)) }
+    ensures { IfOk result (λ v. v.items ≡ layers_ends topology.now.arcs.arcs (all_lent layers.now)) }
 {
     let mut ends = Vec::new(alloc);
     for layer in layers {

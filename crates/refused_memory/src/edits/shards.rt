@@ -3,8 +3,7 @@
 use faults::{FaultKind, OutOfMemory};
 use grid::Grid;
 use merging::{
-    JoinFault, MergeFault, Plan, Shard, first_bad_leaf, merge_all, merge_all_borrowed, merge_as,
-    named_indexes,
+    JoinFault, MergeFault, Plan, Shard, first_bad_leaf, merge_all, merge_as, named_indexes,
 };
 use refine::{Cut, Whole, merge_borrowed_topologies, merge_topologies};
 use refused_calls::calls;
@@ -135,8 +134,10 @@ fn merge_to_shard<S: Shard>(alloc: Global, _: &Pair<S>) -> Result<bool, OutOfMem
 }
 
 fn merge_borrowed_to_shard<S: Shard>(alloc: Global, _: &Pair<S>) -> Result<bool, OutOfMemory> {
-    let texts = [FIRST.as_bytes(), SECOND.as_bytes()];
-    let made: Result<Option<S>, MergeFault> = merge_all_borrowed(alloc, &texts);
+    let texts = [FIRST.as_bytes(), SECOND.as_bytes()]
+        .as_slice()
+        .to_vec(alloc)?;
+    let made: Result<Option<S>, MergeFault> = merge_all(alloc, texts);
     is_merged_shard(alloc, made)
 }
 
@@ -186,7 +187,7 @@ fn settle_wholes(rt: &HostRuntime, tally: &mut Tally, pair: &Pair<Whole>) {
         "Shard::join_owned of Whole" => join_owned::<Whole>,
         "Shard::text of Whole" => text::<Whole>,
         "merging::merge_all of Whole" => merge_to_shard::<Whole>,
-        "merging::merge_all_borrowed of Whole" => merge_borrowed_to_shard::<Whole>,
+        "merging::merge_all of borrowed texts of Whole" => merge_borrowed_to_shard::<Whole>,
         "merging::merge_as of Whole" => merge_to_text::<Whole>,
     );
 }
@@ -200,7 +201,7 @@ fn settle_cuts(rt: &HostRuntime, tally: &mut Tally, pair: &Pair<Cut>) {
         "Shard::join_owned of Cut" => join_owned::<Cut>,
         "Shard::text of Cut" => text::<Cut>,
         "merging::merge_all of Cut" => merge_to_shard::<Cut>,
-        "merging::merge_all_borrowed of Cut" => merge_borrowed_to_shard::<Cut>,
+        "merging::merge_all of borrowed texts of Cut" => merge_borrowed_to_shard::<Cut>,
         "merging::merge_as of Cut" => merge_to_text::<Cut>,
         "refine::merge_topologies" => merge_to_topology,
         "refine::merge_borrowed_topologies" => merge_borrowed_to_topology,

@@ -1,6 +1,6 @@
 use Rattle.std.proofs.Common.{◌++◌, map, refl}
 use Rattle.theory.specs.Lists.{gathered}
-use Rattle.renumbering.specs.LayerLaws.LeftLists.{body_ends}
+use Rattle.refine.specs.LeftLists.{body_ends}
 use Rattle.renumbering.proofs.LayerLawsLemmas.LeftEnds.{note_step}
 use Rattle.refine.proofs.remove.add_ends_of_layer.Goals as goal
 

@@ -1,6 +1,6 @@
 use Rattle.std.proofs.Common.{◌≡◌, ◌++◌, drop, map}
 use Rattle.theory.specs.Lists.{gathered}
-use Rattle.renumbering.specs.LayerLaws.LeftLists.{body_ends}
+use Rattle.refine.specs.LeftLists.{body_ends}
 use Rattle.refine.proofs.remove.add_ends_of_layer.Given as goal
 
 abbrev pub invariant-loop-geometry : goal.invariant-loop-geometry

@@ -1,6 +1,6 @@
 use Rattle.std.proofs.Common.{◌≡◌, ◌++◌, drop}
 use Rattle.refine.specs.Lent.{all_lent}
-use Rattle.renumbering.specs.LayerLaws.LeftLists.{layers_ends}
+use Rattle.refine.specs.LeftLists.{layers_ends}
 use Rattle.refine.proofs.remove.line_ends.Given as goal
 
 abbrev pub invariant-loop-layer : goal.invariant-loop-layer

@@ -1,6 +1,7 @@
 use Rattle.std.proofs.Common.{map}
 use Rattle.theory.specs.Lists.{gathered}
-use Rattle.renumbering.specs.LayerLaws.LeftLists.{body_refs, marked_by}
+use Rattle.renumbering.specs.LayerLaws.LeftLists.{marked_by}
+use Rattle.refine.specs.LeftLists.{body_refs}
 use Rattle.renumbering.proofs.LayerLawsLemmas.LeftMarks.{mark_step, marked_join}
 use Rattle.refine.proofs.remove.mark_layer.Goals as goal
 

@@ -1,5 +1,6 @@
 use Rattle.refine.specs.Lent.{all_lent, lent}
-use Rattle.renumbering.specs.LayerLaws.LeftLists.{layer_refs, layers_refs, marked_by}
+use Rattle.renumbering.specs.LayerLaws.LeftLists.{marked_by}
+use Rattle.refine.specs.LeftLists.{layer_refs, layers_refs}
 use Rattle.renumbering.proofs.LayerLawsLemmas.LeftMarks.{mark_step, marked_join}
 use Rattle.refine.proofs.remove.mark_layers.Goals as goal
 

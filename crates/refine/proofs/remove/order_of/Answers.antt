@@ -1,7 +1,6 @@
 use Rattle.std.proofs.Common.{◌∙◌, subst, sym}
 use Rattle.topo.specs.Features.{HasFeature, IsFeatureOf}
 use Rattle.renumbering.proofs.LayerLawsLemmas.Passing.{info_tells, info_told, order_told}
-use Rattle.refine.proofs.Stitching.{told_same}
 use Rattle.refine.proofs.remove.order_of.Goals as goal
 
 pub returns-then-is_ne-clause-order : goal.returns-then-is_ne-clause-order
@@ -9,12 +8,6 @@ returns-then-is_ne-clause-order c =
     info_tells c.args.topology.now.arcs.arcs c.args.geometry.now c.args.other.now c.then-order.result
     (info_told c.args.geometry.now c.args.other.now c.then-order.result c.cmp.result c.cmp-2.result c.then-order.ensures c.cmp.ensures c.cmp-2.ensures)
     (sym c.is_ne.ensures ∙ c.if-is_ne.true)
-
-pub returns-then-stitches_to-clause-order : goal.returns-then-stitches_to-clause-order
-returns-then-stitches_to-clause-order c =
-    told_same c.args.topology.now.arcs.arcs c.args.geometry.now c.args.other.now c.then-order.result
-    (info_told c.args.geometry.now c.args.other.now c.then-order.result c.cmp.result c.cmp-2.result c.then-order.ensures c.cmp.ensures c.cmp-2.ensures)
-    (sym c.is_ne.ensures ∙ c.if-is_ne.false) (c.stitches_to.ensures.0 c.if-stitches_to.true)
 
 pub known_feature-requires-clause-there : goal.known_feature-requires-clause-there
 known_feature-requires-clause-there c = subst (λ a. HasFeature a.arcs c.args.geometry.now) (sym c.arcs.ensures.arcs) c.requires.there

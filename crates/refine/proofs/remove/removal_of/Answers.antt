@@ -1,9 +1,5 @@
-use Rattle.std.proofs.Common.{◌≡◌, ◌∙◌, ap, map, refl}
-use Rattle.shapes.specs.Maps.{Layers}
-use Rattle.heal_arcs.specs.Starts.{starts_by}
-use Rattle.refine.specs.Lent.{all_lent}
-use Rattle.renumbering.specs.LayerLaws.Leaving.{layer_less}
-use Rattle.renumbering.specs.LayerLaws.Less.{layer_rejoined, less}
+use Rattle.std.proofs.Common.{◌∙◌, ap, refl}
+use Rattle.renumbering.specs.LayerLaws.Less.{less}
 use Rattle.refine.proofs.LeftTold.{made_of, parts_made, pieces_made}
 use Rattle.refine.proofs.remove.removal_of.Goals as goal
 
