@@ -4,14 +4,14 @@
 mod arc_run;
 mod by_use;
 mod choosing;
-pub mod heal;
 mod healed_arcs;
 pub mod healed_lists;
+pub mod healing;
 pub mod laws;
 mod pseudo_nodes;
 mod start_table;
 mod walking;
 
 pub use arc_run::ArcRun;
-pub use heal::heal;
 pub use healed_lists::HealedArcs;
+pub use healing::heal;

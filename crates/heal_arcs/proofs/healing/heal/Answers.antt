@@ -1,7 +1,7 @@
 use Rattle.std.proofs.Common.{map, refl}
 use Rattle.chains.specs.Table.{located}
 use Rattle.heal_arcs.proofs.Heals.{rejoin_is}
-use Rattle.heal_arcs.proofs.heal.heal.Goals as goal
+use Rattle.heal_arcs.proofs.healing.heal.Goals as goal
 
 pub returns : goal.returns
 returns c =

@@ -5,7 +5,7 @@ use Rattle.chains.specs.Pieces.{chain_of}
 use Rattle.chains.specs.Table.{AreLoopsOf, located}
 use Rattle.heal_arcs.specs.HealedArcs.{put_all}
 use Rattle.heal_arcs.specs.Parts.{RejoinedParts}
-use Rattle.heal_arcs.proofs.heal.from_joined.Goals as goal
+use Rattle.heal_arcs.proofs.healing.from_joined.Goals as goal
 
 pub returns : goal.returns
 returns c =
