@@ -10,7 +10,7 @@ use Rattle.json.specs.declared.value.Value.{Value}
 use Rattle.faults.specs.Path.{name, index}
 use Rattle.faults.specs.declared.fault.FaultKind.{FaultKind}
 use Rattle.faults.specs.declared.fault.FaultKind.TheVariants.{WrongKind, UnknownType}
-use Rattle.fixing.specs.declared.raw.RawShape.{RawShape}
+use Rattle.fixing.specs.Forms.{RawShape}
 use Rattle.fixing.specs.declared.rules.FixingRules.{FixingRules}
 use Rattle.reading.specs.Fault.{here, under}
 use Rattle.reading.specs.Parts.{named, text_or_fault, typed_faults}

@@ -1,8 +1,7 @@
 -- Geometries that have no faults are those of which the fixing rules leave something.
-use Rattle.std.proofs.Common.{◌≡◌, ◌↔◌, ℕ, ◌+◌, List, [], map, Bool, true, false, cond, Option, Some, None, Ok, Vec, refl, sym, ap, ap₂, subst, ◌∙◌, codes, option_map, if◌then◌else◌}
+use Rattle.std.proofs.Common.{◌≡◌, ◌↔◌, ℕ, ◌+◌, List, [], Bool, true, false, cond, Option, Some, None, Ok, refl, sym, ap, ap₂, subst, ◌∙◌, codes, option_map, if◌then◌else◌}
 use Rattle.std.specs.List.{AllByRecursion}
 use Rattle.std.specs.Str.{bytes_eq}
-use Rattle.std.specs.declared.alloc.Global.{Global}
 use Rattle.json.specs.Json.{Json, null, boolean, number, string, array, object, Items, no_items, item, Members, no_members, member}
 use Rattle.json.specs.Find.{get, get_member, later_or, as_array}
 use Rattle.faults.specs.Path.{name, index}
@@ -11,12 +10,11 @@ use Rattle.faults.specs.declared.fault.FaultKind.TheVariants.{UnknownType}
 use Rattle.grid.specs.declared.pos.Pos.{Pos}
 use Rattle.lines.specs.declared.shape_fault.ShapeFault.{ShapeFault}
 use Rattle.fixing.specs.Fixable.{IsFixable, IsFixableGeometry, IsFixableLine, IsFixableRing}
-use Rattle.fixing.specs.Forms.{seen_geometry, seen_shape}
-use Rattle.fixing.specs.Seen.{lists_in}
+use Rattle.fixing.specs.Forms.{seen_geometry}
 use Rattle.fixing.specs.declared.raw.RawGeometry.{RawGeometry}
 use Rattle.fixing.specs.declared.raw.RawGeometry.TheVariants as geometry
-use Rattle.fixing.specs.declared.raw.RawShape.{RawShape}
-use Rattle.fixing.specs.declared.raw.RawShape.TheVariants as raw
+use Rattle.fixing.specs.Forms.{RawShape}
+use Rattle.fixing.specs.Forms as raw
 use Rattle.fixing.specs.declared.rules.FixingRules.{FixingRules}
 use Rattle.numerals.specs.Numeral.{IsMeasure}
 use Rattle.reading.specs.Fault.{here, under, unless_faulty}
@@ -121,27 +119,27 @@ module _ (grid : DecimalGrid) (fixing : FixingRules) (measured : IsMeasure grid.
       subst (λ qs. (unfixed_as fixing outline ps ≡ None) ↔ (unless_faulty qs (outline_faults (unfixed_as fixing outline (positions_of grid.step j))) ≡ [])) (sym is.0)
       (subst (λ qs. (unfixed_as fixing outline ps ≡ None) ↔ (outline_faults (unfixed_as fixing outline qs) ≡ [])) (sym is.1) (no_fault (unfixed_as fixing outline ps)))
 
-  lines_iff : (j : Json) (ls : Vec (Vec Pos Global) Global) (a b : Tally) → AreLists grid j ls a b → AllByRecursion (IsFixableLine fixing) (lists_in ls.items) ↔ (list_faults (outline_at_faults grid fixing Line) j ≡ [])
-  lines_iff j ls a b h = list_iff (ArePositions grid) (outline_at_faults grid fixing Line) (λ list. list.items) (IsFixableLine fixing) (λ k ps c d. outline_iff Line k ps.items c d) j ls.items a b h
+  lines_iff : (j : Json) (ls : List (List Pos)) (a b : Tally) → AreLists grid j ls a b → AllByRecursion (IsFixableLine fixing) ls ↔ (list_faults (outline_at_faults grid fixing Line) j ≡ [])
+  lines_iff j ls a b h = list_iff (ArePositions grid) (outline_at_faults grid fixing Line) (IsFixableLine fixing) (outline_iff Line) j ls a b h
 
-  rings_iff : (j : Json) (ls : Vec (Vec Pos Global) Global) (a b : Tally) → AreLists grid j ls a b → AllByRecursion (IsFixableRing fixing) (lists_in ls.items) ↔ (list_faults (outline_at_faults grid fixing Ring) j ≡ [])
-  rings_iff j ls a b h = list_iff (ArePositions grid) (outline_at_faults grid fixing Ring) (λ list. list.items) (IsFixableRing fixing) (λ k ps c d. outline_iff Ring k ps.items c d) j ls.items a b h
+  rings_iff : (j : Json) (ls : List (List Pos)) (a b : Tally) → AreLists grid j ls a b → AllByRecursion (IsFixableRing fixing) ls ↔ (list_faults (outline_at_faults grid fixing Ring) j ≡ [])
+  rings_iff j ls a b h = list_iff (ArePositions grid) (outline_at_faults grid fixing Ring) (IsFixableRing fixing) (outline_iff Ring) j ls a b h
 
   empty_sound : (j : Json) → j ≡ array no_items → point_faults grid j ≡ []
   empty_sound j e = subst (λ k. point_faults grid k ≡ []) (sym e) refl
 
-  shape_iff : (j : Json) (s : RawShape) (a b : Tally) → IsShape grid j s a b → IsFixable fixing (seen_shape s) ↔ (coordinates_faults grid fixing (kind_of s) j ≡ [])
+  shape_iff : (j : Json) (s : RawShape) (a b : Tally) → IsShape grid j s a b → IsFixable fixing s ↔ (coordinates_faults grid fixing (kind_of s) j ≡ [])
   shape_iff j raw.Null a b h = ((λ k. empty_sound j h.0), (λ k. tt))
   shape_iff j (raw.Point p) a b h = ((λ k. unless_none (position_faults grid) j (as_array j) (position_sound grid measured j p a b h).0), (λ k. tt))
-  shape_iff j (raw.MultiPoint ps) a b h = ((λ k. (positions_sound grid measured j ps.items a b h).0), (λ k. tt))
-  shape_iff j (raw.Line ps) a b h = outline_iff Line j ps.items a b h
+  shape_iff j (raw.MultiPoint ps) a b h = ((λ k. (positions_sound grid measured j ps a b h).0), (λ k. tt))
+  shape_iff j (raw.Line ps) a b h = outline_iff Line j ps a b h
   shape_iff j (raw.MultiLine ls) a b h = lines_iff j ls a b h
   shape_iff j (raw.Polygon ls) a b h = rings_iff j ls a b h
-  shape_iff j (raw.MultiPolygon gs) a b h = list_iff (AreLists grid) (list_faults (outline_at_faults grid fixing Ring)) (λ polygon. lists_in polygon.items) (AllByRecursion (IsFixableRing fixing)) rings_iff j gs.items a b h
+  shape_iff j (raw.MultiPolygon gs) a b h = list_iff (AreLists grid) (list_faults (outline_at_faults grid fixing Ring)) (AllByRecursion (IsFixableRing fixing)) rings_iff j gs a b h
 
   -- ---- geometries
 
-  simple_iff : (j : Json) (s : RawShape) (a b : Tally) → IsSimple grid j s a b → IsFixable fixing (seen_shape s) ↔ (geometry_faults grid fixing j ≡ [])
+  simple_iff : (j : Json) (s : RawShape) (a b : Tally) → IsSimple grid j s a b → IsFixable fixing s ↔ (geometry_faults grid fixing j ≡ [])
   simple_iff null s a b h = absurd (no_member _ h.kind)
   simple_iff (boolean v) s a b h = absurd (no_member _ h.kind)
   simple_iff (number t) s a b h = absurd (no_member _ h.kind)
@@ -149,7 +147,7 @@ module _ (grid : DecimalGrid) (fixing : FixingRules) (measured : IsMeasure grid.
   simple_iff (array js) s a b h = absurd (no_member _ h.kind)
   simple_iff (object ms) s a b h =
       let k = kind_of s in
-      subst (λ ps. IsFixable fixing (seen_shape s) ↔ (ps ≡ [])) (sym (typed_is grid fixing ms (Simple k) (form_is ms (kind_name (kind_of s)) h.kind ∙ named_is (kind_of s))))
+      subst (λ ps. IsFixable fixing s ↔ (ps ≡ [])) (sym (typed_is grid fixing ms (Simple k) (form_is ms (kind_name (kind_of s)) h.kind ∙ named_is (kind_of s))))
       (member_iff (codes "coordinates") (coordinates_faults grid fixing k) (object ms) h.coordinates h.member (shape_iff h.coordinates s a b h.shape))
 
   more_iff : {P Q : Type 0} (i : ℕ) (j : Json) (js : Items) → P ↔ (geometry_faults grid fixing j ≡ []) → Q ↔ (each_geometry_faults grid fixing (i + 1) js ≡ []) → (P × Q) ↔ (each_geometry_faults grid fixing i (item j js) ≡ [])
@@ -160,12 +158,12 @@ module _ (grid : DecimalGrid) (fixing : FixingRules) (measured : IsMeasure grid.
   unfolding each_geometry_faults
   none_iff i = ((λ k. refl), (λ k. tt))
 
-  shapes_iff : {js : Items} {ss : List RawShape} {a b : Tally} → AreShapes grid js ss a b → fixing.splits_collections ≡ true → (i : ℕ) → AllByRecursion (IsFixable fixing) (map seen_shape ss) ↔ (each_geometry_faults grid fixing i js ≡ [])
+  shapes_iff : {js : Items} {ss : List RawShape} {a b : Tally} → AreShapes grid js ss a b → fixing.splits_collections ≡ true → (i : ℕ) → AllByRecursion (IsFixable fixing) ss ↔ (each_geometry_faults grid fixing i js ≡ [])
   shapes_iff (AreShapes.none a) split i = none_iff i
   shapes_iff (AreShapes.simple j js s ss a b c one others) split i = more_iff i j js (simple_iff j s a b one) (shapes_iff others split (i + 1))
   shapes_iff (AreShapes.nested j js inner rs ss a b c has within others) split i =
       let one = collection_iff grid fixing j inner has (λ same. shapes_iff within split 0) in
-      then_iff (all_both seen_shape (IsFixable fixing) rs ss) (more_iff i j js ((λ h. one.0 (split, h)), (λ h. (one.1 h).1)) (shapes_iff others split (i + 1)))
+      then_iff (all_both (IsFixable fixing) rs ss) (more_iff i j js ((λ h. one.0 (split, h)), (λ h. (one.1 h).1)) (shapes_iff others split (i + 1)))
 
   -- the rules leave something of a geometry exactly where it has no faults
   pub geometry_iff : (j : Json) (g : RawGeometry) (a b : Tally) → IsGeometry grid j g a b → IsFixableGeometry fixing (seen_geometry g) ↔ (geometry_faults grid fixing j ≡ [])

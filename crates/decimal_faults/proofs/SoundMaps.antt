@@ -8,7 +8,7 @@ use Rattle.fixing.specs.Fixable.{IsFixableGeometry}
 use Rattle.fixing.specs.Forms.{seen_geometry}
 use Rattle.fixing.specs.declared.raw.RawGeometry.{RawGeometry}
 use Rattle.fixing.specs.declared.raw.RawGeometry.TheVariants.{One, Collection}
-use Rattle.fixing.specs.declared.raw.RawShape.TheVariants as raw
+use Rattle.fixing.specs.Forms as raw
 use Rattle.fixing.specs.declared.rules.FixingRules.{FixingRules}
 use Rattle.fixing.proofs.Fixable.{geometry_is_left}
 use Rattle.numerals.specs.Numeral.{IsMeasure}
@@ -28,7 +28,7 @@ use Rattle.decimal_faults.specs.Laws.{AreLeft, IsLeft, MapsAreFixable, MapsAreSo
 use Rattle.decimal_faults.specs.Maps.{feature_faults, feature_members_faults, map_faults, root_faults}
 use Rattle.decimal_faults.specs.Parts.{if_there, list_faults, type_or_fault, type_text, unless_null}
 use Rattle.decimal_faults.proofs.SoundGeometries.{geometry_iff, no_member}
-use Rattle.decimal_faults.proofs.SoundParts.{all_same, both_iff, list_iff, member_iff, then_iff}
+use Rattle.decimal_faults.proofs.SoundParts.{both_iff, list_iff, member_iff, then_iff}
 
 -- the text of a type
 type_is : (j : Json) (s : List ℕ) → get (codes "type") j ≡ Some (string s) → type_text j ≡ Ok s
@@ -109,7 +109,7 @@ module _ (rules : MapRules) (fixing : FixingRules) (measured : IsMeasure rules.g
   collection_iff j fs h =
       subst (λ r. AreLeft fixing fs ↔ (root_faults rules fixing j r ≡ [])) (sym (type_is j (codes "FeatureCollection") h.kind))
       (member_iff (codes "features") (list_faults (feature_faults rules fixing)) j h.features h.member
-      (then_iff (all_same (IsLeft fixing) fs) (list_iff (λ k f (a b : Unit {0}). IsFeature rules k f) (feature_faults rules fixing) (λ f. f) (IsLeft fixing) feature_iff h.features fs tt tt h.each)))
+      (list_iff (λ k f (a b : Unit {0}). IsFeature rules k f) (feature_faults rules fixing) (IsLeft fixing) feature_iff h.features fs tt tt h.each))
 
   one_iff : (j : Json) (fs : List RawFeature) → IsOneFeature rules j fs → AreLeft fixing fs ↔ (map_faults rules fixing j ≡ [])
   one_iff j [] h = absurd h

@@ -1,5 +1,5 @@
 -- Parts whose faults are none exactly where something holds of what they mean.
-use Rattle.std.proofs.Common.{◌≡◌, ◌↔◌, ℕ, ◌+◌, List, [], ◌∷◌, ◌++◌, map, Some, refl, sym, ap, ap₂, subst}
+use Rattle.std.proofs.Common.{◌≡◌, ◌↔◌, ℕ, ◌+◌, List, [], ◌∷◌, ◌++◌, Some, refl, sym, ap, ap₂, subst}
 use Rattle.std.specs.List.{AllByRecursion}
 use Rattle.json.specs.Json.{Json, null, boolean, number, string, array, object, Items, no_items, item}
 use Rattle.json.specs.Find.{get}
@@ -26,16 +26,16 @@ member_iff {P} n of j k is a =
     subst (λ o. P ↔ (under (name n) (there of o) ≡ [])) (sym is)
     ((λ h. ap (under (name n)) (a.0 h)), (λ h. a.1 (under_none (name n) (of k) h)))
 
-module _ {X Y C : Type 0} (M : Json → X → C → C → Type 0) (of : Json → List Pair) (f : X → Y) (P : Y → Type 0)
-    (part : (j : Json) (x : X) (a b : C) → M j x a b → P (f x) ↔ (of j ≡ [])) where
-  each_iff : (i : ℕ) (js : Items) (xs : List X) (a b : C) → ItemsMean M js xs a b → AllByRecursion P (map f xs) ↔ (each_faults of i js ≡ [])
+module _ {X C : Type 0} (M : Json → X → C → C → Type 0) (of : Json → List Pair) (P : X → Type 0)
+    (part : (j : Json) (x : X) (a b : C) → M j x a b → P x ↔ (of j ≡ [])) where
+  each_iff : (i : ℕ) (js : Items) (xs : List X) (a b : C) → ItemsMean M js xs a b → AllByRecursion P xs ↔ (each_faults of i js ≡ [])
   each_iff i no_items [] a b h = ((λ k. refl), (λ k. tt))
   each_iff i no_items (x ∷ xs) a b h = absurd h
   each_iff i (item j js) [] a b h = absurd h
   each_iff i (item j js) (x ∷ xs) a b h = both_iff (index i) (of j) (each_faults of (i + 1) js) (part j x a h.0 h.1) (each_iff (i + 1) js xs h.0 b h.2)
 
   -- the faults of a list
-  pub list_iff : (j : Json) (xs : List X) (a b : C) → ArrayMeans M j xs a b → AllByRecursion P (map f xs) ↔ (list_faults of j ≡ [])
+  pub list_iff : (j : Json) (xs : List X) (a b : C) → ArrayMeans M j xs a b → AllByRecursion P xs ↔ (list_faults of j ≡ [])
   list_iff null xs a b h = absurd h
   list_iff (boolean v) xs a b h = absurd h
   list_iff (number s) xs a b h = absurd h
@@ -44,11 +44,6 @@ module _ {X Y C : Type 0} (M : Json → X → C → C → Type 0) (of : Json →
   list_iff (object ms) xs a b h = absurd h
 
 module _ {X : Type 0} (P : X → Type 0) where
-  pub all_same : (xs : List X) → AllByRecursion P xs ↔ AllByRecursion P (map (λ x. x) xs)
-  all_same [] = ((λ h. h), (λ h. h))
-  all_same (x ∷ xs) = ((λ h. (h.0, (all_same xs).0 h.1)), (λ h. (h.0, (all_same xs).1 h.1)))
-
-module _ {X Y : Type 0} (f : X → Y) (P : Y → Type 0) where
-  pub all_both : (xs ys : List X) → AllByRecursion P (map f (xs ++ ys)) ↔ (AllByRecursion P (map f xs) × AllByRecursion P (map f ys))
+  pub all_both : (xs ys : List X) → AllByRecursion P (xs ++ ys) ↔ (AllByRecursion P xs × AllByRecursion P ys)
   all_both [] ys = ((λ h. (tt, h)), (λ h. h.1))
   all_both (x ∷ xs) ys = ((λ h. ((h.0, ((all_both xs ys).0 h.1).0), ((all_both xs ys).0 h.1).1)), (λ h. (h.0.0, (all_both xs ys).1 (h.0.1, h.1))))

@@ -1,7 +1,7 @@
 -- The shapes of a geometry among others.
 use Rattle.std.specs.Prelude.{◌≡◌, ◌⊎◌, List, [], ◌∷◌}
 use Rattle.json.specs.Json.{Json}
-use Rattle.fixing.specs.declared.raw.RawShape.{RawShape}
+use Rattle.fixing.specs.Forms.{RawShape}
 use Rattle.decimal_maps.specs.Geometries.{IsSimple, IsCollection}
 use Rattle.decimal_maps.specs.declared.rules.DecimalGrid.{DecimalGrid}
 use Rattle.decimal_maps.specs.declared.tally.Tally.{Tally}

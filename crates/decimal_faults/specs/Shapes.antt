@@ -1,7 +1,7 @@
 -- Shapes by the types of their geometries.
 use Rattle.std.specs.Prelude.{◌≡◌}
 use Rattle.json.specs.Json.{Json}
-use Rattle.fixing.specs.declared.raw.RawShape.{RawShape}
+use Rattle.fixing.specs.Forms.{RawShape}
 use Rattle.reading.specs.declared.geometry.GeometryType.{GeometryType}
 use Rattle.decimal_maps.specs.Geometries.{IsShape, kind_of}
 use Rattle.decimal_maps.specs.declared.rules.DecimalGrid.{DecimalGrid}

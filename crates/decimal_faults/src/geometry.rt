@@ -3,7 +3,7 @@ ghost use Rattle.decimal_faults.specs.Collections.{HasShapes};
 ghost use Rattle.decimal_faults.specs.Geometries.{each_geometry_faults, form_named as named_form, form_of as form_in, geometries_faults, geometry_faults};
 ghost use Rattle.decimal_faults.specs.Parts.{member_faults, unless_null};
 ghost use Rattle.decimal_maps.specs.Geometries.{AreShapes, IsCollection, IsGeometry, IsGeometryOrNull, IsSimple};
-ghost use Rattle.fixing.specs.declared.raw.RawShape.{RawShape as Raw};
+ghost use Rattle.fixing.specs.Forms.{RawShape as Raw};
 ghost use Rattle.fixing.specs.declared.rules.FixingRules.{FixingRules as Rules};
 ghost use Rattle.json.specs.Value.{value_view, items_view};
 ghost use Rattle.reading.specs.FaultLists.Found.{pairs_of};

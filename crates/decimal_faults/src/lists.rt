@@ -13,6 +13,7 @@ use faults::OutOfMemory;
 use faults::fault::{Fault, FaultKind};
 use fixing::FixingRules;
 use json::Value;
+use lines::items::Items;
 use reading::fault_lists::found::{one, put_under_index};
 use std::alloc::Global;
 
@@ -67,8 +68,8 @@ fn make_each<P: Part>(
     of: &P,
     values: &[Value<'_>],
     count: &mut P::Count,
-) -> Result<Vec<P::Made>, Stop>
-    ensures made { IfOk result (λ xs. ItemsMean (P.means of.now) (items_view values.now) xs.items count.old count.new) }
+) -> Result<Items<P::Made>, Stop>
+    ensures made { IfOk result (λ xs. ItemsMean (P.means of.now) (items_view values.now) xs count.old count.new) }
     ensures refused { result ≡ Err Stop.Unread → (fixing : Rules) → each_faults (P.faults of.now fixing) 0 (items_view values.now) ≢ [] }
 {
     let mut found = Vec::new(alloc);
@@ -78,7 +79,7 @@ fn make_each<P: Part>(
             Err(stop) => return Err(stop),
         }
     }
-    Ok(found)
+    Ok(Items::from_vec(found))
 }
 
 /// Lists of parts are parts.
@@ -88,13 +89,13 @@ pub struct ListOf<P> {
 }
 
 impl<P: Part> Part for ListOf<P> {
-    type Made = Vec<P::Made>;
+    type Made = Items<P::Made>;
 
     type Count = P::Count;
 
     ghost faults = { λ p fixing. list_faults (P.faults p.of fixing) };
 
-    ghost means = { λ p j xs a b. ArrayMeans (P.means p.of) j xs.items a b };
+    ghost means = { λ p. ArrayMeans (P.means p.of) };
 
     fn judge(
         &self,
@@ -113,7 +114,7 @@ impl<P: Part> Part for ListOf<P> {
         alloc: Global,
         value: &Value<'_>,
         count: &mut P::Count,
-    ) -> Result<Vec<P::Made>, Stop> {
+    ) -> Result<Items<P::Made>, Stop> {
         match items_of(value) {
             Some(items) => make_each(alloc, &self.of, items, count),
             None => Err(Stop::Unread),

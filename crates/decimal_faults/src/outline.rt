@@ -14,6 +14,7 @@ use faults::fault::{Fault, FaultKind};
 use fixing::{FixingRules, unfixed_line, unfixed_ring};
 use grid::Pos;
 use json::Value;
+use lines::items::Items;
 use lines::shape_fault::ShapeFault;
 use reading::fault_lists::found::{Wanted, is_enough, one};
 use std::alloc::Global;
@@ -30,14 +31,14 @@ pub enum Outline {
 fn find_unfixed(
     alloc: Global,
     outline: Outline,
-    positions: Vec<Pos>,
+    positions: Items<Pos>,
     fixing: &FixingRules,
 ) -> Result<Option<ShapeFault>, OutOfMemory>
-    ensures { IfOk result (λ fault. fault ≡ unfixed_as fixing.now outline positions.items) }
+    ensures { IfOk result (λ fault. fault ≡ unfixed_as fixing.now outline positions) }
 {
     match outline {
-        Outline::Line => unfixed_line(alloc, positions, fixing),
-        Outline::Ring => unfixed_ring(alloc, positions, fixing),
+        Outline::Line => unfixed_line(alloc, positions.into_vec(), fixing),
+        Outline::Ring => unfixed_ring(alloc, positions.into_vec(), fixing),
     }
 }
 
@@ -60,10 +61,10 @@ fn kind_of(fault: ShapeFault) -> FaultKind
 pub fn judge_outline(
     alloc: Global,
     outline: Outline,
-    positions: Vec<Pos>,
+    positions: Items<Pos>,
     fixing: &FixingRules,
 ) -> Result<Vec<Fault>, OutOfMemory>
-    ensures { IfOk result (λ fs. pairs_of fs.items ≡ outline_faults (unfixed_as fixing.now outline positions.items)) }
+    ensures { IfOk result (λ fs. pairs_of fs.items ≡ outline_faults (unfixed_as fixing.now outline positions)) }
 {
     match find_unfixed(alloc, outline, positions, fixing)? {
         None => Ok(Vec::new(alloc)),
@@ -79,13 +80,13 @@ pub struct OutlineOn {
 }
 
 impl Part for OutlineOn {
-    type Made = Vec<Pos>;
+    type Made = Items<Pos>;
 
     type Count = Tally;
 
     ghost faults = { λ p fixing. outline_at_faults p.grid fixing p.outline };
 
-    ghost means = { λ p j xs a b. ArrayMeans (IsPosition p.grid) j xs.items a b };
+    ghost means = { λ p. ArrayMeans (IsPosition p.grid) };
 
     fn judge(
         &self,
@@ -105,7 +106,12 @@ impl Part for OutlineOn {
         }
     }
 
-    fn make(&self, alloc: Global, value: &Value<'_>, count: &mut Tally) -> Result<Vec<Pos>, Stop> {
+    fn make(
+        &self,
+        alloc: Global,
+        value: &Value<'_>,
+        count: &mut Tally,
+    ) -> Result<Items<Pos>, Stop> {
         ListOf { of: self.grid }.make(alloc, value, count)
     }
 }

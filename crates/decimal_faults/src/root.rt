@@ -112,7 +112,10 @@ pub fn read_value(
     match type_name(value) {
         Ok("FeatureCollection") => {
             let of = FeatureOf { rules };
-            make_member(alloc, &ListOf { of }, value, "features", &mut ())
+            match make_member(alloc, &ListOf { of }, value, "features", &mut ()) {
+                Ok(features) => Ok(features.into_vec()),
+                Err(stop) => Err(stop),
+            }
         }
         Ok("Feature") => {
             let feature = make_feature(alloc, rules, value)?;

@@ -128,10 +128,6 @@ module _ {X C : Type 0} (P : Json → X → C → C → Type 0) where
       } in
       array_reads depth (begin_array ∷ opened) opened new xs a c some refl whole
 
--- what is meant of what is seen of a value
-pub reads_of : {X Y C : Type 0} (S : Json → Y → C → C → Type 0) (see : X → Y) (depth : ℕ) (old new : List Token) (a b : C) (v : X) → Reads S depth old new a b (see v) → Reads (λ j u c d. S j (see u) c d) depth old new a b v
-reads_of S see depth old new a b v r = record { from = r.from; given = r.given; meant = r.meant }
-
 pub empty_gives : (depth : ℕ) (old mid new : List Token) → 0 < depth → old ≡ begin_array ∷ mid → after_end_array mid ≡ Some new → Gives depth old (array no_items) new
 empty_gives depth old mid new some opens closed = ap (value depth) opens ∙ value-begin_array depth mid some ∙ ap (parse_map array) (items_end (value (depth - 1)) (length mid) mid new (omega arith) closed)
 

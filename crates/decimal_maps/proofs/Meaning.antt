@@ -7,7 +7,7 @@ use Rattle.json.specs.Json.{Json, null, boolean, number, string, array, object, 
 use Rattle.json.specs.Find.{get_member}
 use Rattle.json.specs.declared.value.Value.{Value}
 use Rattle.attributes.specs.Attributes.{seen_member}
-use Rattle.fixing.specs.declared.raw.RawShape.{RawShape}
+use Rattle.fixing.specs.Forms.{RawShape}
 use Rattle.decimal_maps.specs.Arrays.{ArrayMeans, ItemsMean}
 use Rattle.decimal_maps.specs.Geometries.{AreShapes, IsCollection, IsSimple}
 use Rattle.decimal_maps.specs.Members.{AreCounted, AreSimple, IsCountedGeometry, IsKind, IsValue, KnowsGeometry, KnowsMember, KnowsParts, KnowsSimple, lookup_of}

@@ -1,13 +1,12 @@
 -- Geometries [RFC 7946, 3.1]. No list of positions is judged as a line or a ring.
-use Rattle.std.specs.Prelude.{◌≡◌, ◌⊎◌, ℕ, List, [], ◌∷◌, ◌++◌, Some, Vec, codes}
-use Rattle.std.specs.declared.alloc.Global.{Global}
+use Rattle.std.specs.Prelude.{◌≡◌, ◌⊎◌, ℕ, List, [], ◌∷◌, ◌++◌, Some, codes}
 use Rattle.json.specs.Json.{Json, null, string, array, Items, no_items, item}
 use Rattle.json.specs.Find.{get}
 use Rattle.grid.specs.declared.pos.Pos.{Pos}
 use Rattle.fixing.specs.declared.raw.RawGeometry.{RawGeometry}
 use Rattle.fixing.specs.declared.raw.RawGeometry.TheVariants.{One, Collection}
-use Rattle.fixing.specs.declared.raw.RawShape.{RawShape}
-use Rattle.fixing.specs.declared.raw.RawShape.TheVariants as raw
+use Rattle.fixing.specs.Forms.{RawShape}
+use Rattle.fixing.specs.Forms as raw
 use Rattle.decimal_maps.specs.Arrays.{ArrayMeans}
 use Rattle.decimal_maps.specs.Positions.{IsPosition}
 use Rattle.reading.specs.declared.geometry.GeometryType.{GeometryType}
@@ -16,16 +15,16 @@ use Rattle.decimal_maps.specs.declared.rules.DecimalGrid.{DecimalGrid}
 use Rattle.decimal_maps.specs.declared.tally.Tally.{Tally}
 
 -- a list of positions
-abbrev pub ArePositions : DecimalGrid → Json → Vec Pos Global → Tally → Tally → Type 0
-ArePositions grid j ps a b = ArrayMeans (IsPosition grid) j ps.items a b
+abbrev pub ArePositions : DecimalGrid → Json → List Pos → Tally → Tally → Type 0
+ArePositions grid = ArrayMeans (IsPosition grid)
 
 -- a list of such lists
-abbrev pub AreLists : DecimalGrid → Json → Vec (Vec Pos Global) Global → Tally → Tally → Type 0
-AreLists grid j ls a b = ArrayMeans (ArePositions grid) j ls.items a b
+abbrev pub AreLists : DecimalGrid → Json → List (List Pos) → Tally → Tally → Type 0
+AreLists grid = ArrayMeans (ArePositions grid)
 
 -- a list of those
-abbrev pub AreGroups : DecimalGrid → Json → Vec (Vec (Vec Pos Global) Global) Global → Tally → Tally → Type 0
-AreGroups grid j gs a b = ArrayMeans (AreLists grid) j gs.items a b
+abbrev pub AreGroups : DecimalGrid → Json → List (List (List Pos)) → Tally → Tally → Type 0
+AreGroups grid = ArrayMeans (AreLists grid)
 
 -- the type's name [RFC 7946, 1.4]
 abbrev pub kind_name : GeometryType → List ℕ

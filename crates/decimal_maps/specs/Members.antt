@@ -6,7 +6,7 @@ use Rattle.json.specs.Find.{get_member}
 use Rattle.json.specs.Value.{value_view}
 use Rattle.json.specs.declared.value.Value.{Value}
 use Rattle.fixing.specs.declared.raw.RawGeometry.{RawGeometry}
-use Rattle.fixing.specs.declared.raw.RawShape.{RawShape}
+use Rattle.fixing.specs.Forms.{RawShape}
 use Rattle.decimal_maps.specs.Arrays.{ArrayMeans}
 use Rattle.decimal_maps.specs.Geometries.{AreGroups, AreLists, ArePositions, IsGeometryOrNull, IsShape, IsSimple, kind_name, kind_of}
 use Rattle.decimal_maps.specs.Positions.{IsPosition}

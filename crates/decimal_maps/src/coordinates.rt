@@ -9,6 +9,7 @@ use crate::opened::{FromOpened, number_or_array};
 use crate::rules::DecimalGrid;
 use crate::tally::Tally;
 use crate::token::take_begin_array;
+use fixing::Items;
 use grid::Pos;
 use json::Reader;
 use reading::geometry::GeometryType;
@@ -20,9 +21,9 @@ pub enum Coordinates {
     /// The empty list, of whatever.
     Empty,
     Place(Pos),
-    Places(Vec<Pos>),
-    Lists(Vec<Vec<Pos>>),
-    Groups(Vec<Vec<Vec<Pos>>>),
+    Places(Items<Pos>),
+    Lists(Items<Items<Pos>>),
+    Groups(Items<Items<Items<Pos>>>),
 }
 
 /// The coordinates that come next, whatever the type beside them.

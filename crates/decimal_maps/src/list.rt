@@ -5,6 +5,7 @@ ghost use Rattle.std.specs.Prelude.{◌≡◌, ◌-◌, ◌∷◌, [], IfOk};
 
 use crate::from_tokens::{FromTokens, Stop};
 use crate::token::take_begin_array;
+use fixing::Items;
 use json::Reader;
 use std::alloc::Global;
 
@@ -61,11 +62,11 @@ pub struct ListOf<P> {
 }
 
 impl<'t, P: FromTokens<'t>> FromTokens<'t> for ListOf<P> {
-    type Made = Vec<P::Made>;
+    type Made = Items<P::Made>;
 
     type Count = P::Count;
 
-    ghost means = { λ p j xs a b. ArrayMeans (P.means p.of) j xs.items a b };
+    ghost means = { λ p. ArrayMeans (P.means p.of) };
 
     fn read(
         &self,
@@ -73,7 +74,8 @@ impl<'t, P: FromTokens<'t>> FromTokens<'t> for ListOf<P> {
         reader: &mut Reader<'t>,
         depth: usize,
         count: &mut P::Count,
-    ) -> Result<Vec<P::Made>, Stop> {
-        read_list(alloc, &self.of, reader, depth, count)
+    ) -> Result<Items<P::Made>, Stop> {
+        let found = read_list(alloc, &self.of, reader, depth, count)?;
+        Ok(Items::from_vec(found))
     }
 }

@@ -9,6 +9,7 @@ ghost use Rattle.std.specs.Prelude.{◌≡◌, ◌∷◌, List, IfOk, MatchOptio
 
 use crate::from_tokens::{FromTokens, Stop};
 use crate::list::{ListOf, read_rest, single};
+use fixing::Items;
 use json::{Reader, Token};
 use std::alloc::Global;
 
@@ -51,12 +52,13 @@ impl<'t, P: FromOpened<'t>> FromOpened<'t> for ListOf<P> {
         reader: &mut Reader<'t>,
         depth: usize,
         count: &mut P::Count,
-    ) -> Result<Vec<P::Made>, Stop> {
+    ) -> Result<Items<P::Made>, Stop> {
         if depth == 0 {
             return Err(Stop::Unread);
         }
         let first = self.of.read_opened(alloc, x, reader, depth - 1, count)?;
         let found = single(alloc, first)?;
-        read_rest(alloc, &self.of, reader, depth - 1, count, found)
+        let all = read_rest(alloc, &self.of, reader, depth - 1, count, found)?;
+        Ok(Items::from_vec(all))
     }
 }

@@ -11,6 +11,7 @@ use crate::kind::{Kind, take_kind};
 use crate::object::{Lookup, TakeMember, read_object, skip_value};
 use crate::rules::DecimalGrid;
 use crate::tally::Tally;
+use fixing::Items;
 use fixing::raw::RawShape;
 use grid::Pos;
 use json::Reader;
@@ -96,11 +97,11 @@ fn shape_of_nothing(alloc: Global, kind: GeometryType) -> RawShape
 {
     match kind {
         GeometryType::Point => RawShape::Null,
-        GeometryType::MultiPoint => RawShape::MultiPoint(Vec::new(alloc)),
-        GeometryType::LineString => RawShape::Line(Vec::new(alloc)),
-        GeometryType::MultiLineString => RawShape::MultiLine(Vec::new(alloc)),
-        GeometryType::Polygon => RawShape::Polygon(Vec::new(alloc)),
-        GeometryType::MultiPolygon => RawShape::MultiPolygon(Vec::new(alloc)),
+        GeometryType::MultiPoint => RawShape::MultiPoint(Items::from_vec(Vec::new(alloc))),
+        GeometryType::LineString => RawShape::Line(Items::from_vec(Vec::new(alloc))),
+        GeometryType::MultiLineString => RawShape::MultiLine(Items::from_vec(Vec::new(alloc))),
+        GeometryType::Polygon => RawShape::Polygon(Items::from_vec(Vec::new(alloc))),
+        GeometryType::MultiPolygon => RawShape::MultiPolygon(Items::from_vec(Vec::new(alloc))),
     }
 }
 
@@ -113,7 +114,7 @@ fn shape_of_place(kind: GeometryType, place: Pos) -> Result<RawShape, Stop>
     }
 }
 
-fn shape_of_places(kind: GeometryType, places: Vec<Pos>) -> Result<RawShape, Stop>
+fn shape_of_places(kind: GeometryType, places: Items<Pos>) -> Result<RawShape, Stop>
     ensures { IfOk result (IsShapeOf kind (Coordinates.Places places)) }
 {
     match kind {
@@ -123,7 +124,7 @@ fn shape_of_places(kind: GeometryType, places: Vec<Pos>) -> Result<RawShape, Sto
     }
 }
 
-fn shape_of_lists(kind: GeometryType, lists: Vec<Vec<Pos>>) -> Result<RawShape, Stop>
+fn shape_of_lists(kind: GeometryType, lists: Items<Items<Pos>>) -> Result<RawShape, Stop>
     ensures { IfOk result (IsShapeOf kind (Coordinates.Lists lists)) }
 {
     match kind {
@@ -133,7 +134,7 @@ fn shape_of_lists(kind: GeometryType, lists: Vec<Vec<Pos>>) -> Result<RawShape, 
     }
 }
 
-fn shape_of_groups(kind: GeometryType, groups: Vec<Vec<Vec<Pos>>>) -> Result<RawShape, Stop>
+fn shape_of_groups(kind: GeometryType, groups: Items<Items<Items<Pos>>>) -> Result<RawShape, Stop>
     ensures { IfOk result (IsShapeOf kind (Coordinates.Groups groups)) }
 {
     match kind {

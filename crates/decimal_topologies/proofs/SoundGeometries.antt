@@ -1,18 +1,16 @@
 -- Geometry objects of which the fixing rules leave something have no faults.
-use Rattle.std.proofs.Common.{◌≡◌, ℕ, ◌+◌, List, [], ◌∷◌, ◌++◌, map, Bool, true, false, Option, Some, None, Ok, Vec, refl, sym, ap, ap₂, subst, ◌∙◌, codes, inl, inr, if◌then◌else◌}
+use Rattle.std.proofs.Common.{◌≡◌, ℕ, ◌+◌, List, [], ◌∷◌, ◌++◌, Bool, true, false, Option, Some, None, Ok, refl, sym, ap, ap₂, subst, ◌∙◌, codes, inl, inr, if◌then◌else◌}
 use Rattle.std.specs.List.{AllByRecursion}
-use Rattle.std.specs.declared.alloc.Global.{Global}
 use Rattle.json.specs.Json.{Json, null, boolean, number, string, array, object, Items, no_items, item}
 use Rattle.json.specs.Find.{get, as_array, as_object}
 use Rattle.faults.specs.Path.{name, index}
 use Rattle.faults.specs.Fault.{Pair}
 use Rattle.fixing.specs.Fixable.{IsFixable, IsFixableGeometry, IsFixableLine, IsFixableRing}
-use Rattle.fixing.specs.Forms.{seen_geometry, seen_shape}
-use Rattle.fixing.specs.Seen.{lists_in}
+use Rattle.fixing.specs.Forms.{seen_geometry}
 use Rattle.fixing.specs.declared.raw.RawGeometry.{RawGeometry}
 use Rattle.fixing.specs.declared.raw.RawGeometry.TheVariants as geometry
-use Rattle.fixing.specs.declared.raw.RawShape.{RawShape}
-use Rattle.fixing.specs.declared.raw.RawShape.TheVariants as raw
+use Rattle.fixing.specs.Forms.{RawShape}
+use Rattle.fixing.specs.Forms as raw
 use Rattle.fixing.specs.declared.rules.FixingRules.{FixingRules}
 use Rattle.grid.specs.declared.pos.Pos.{Pos}
 use Rattle.reading.specs.Fault.{under, unless_faulty}
@@ -39,16 +37,16 @@ use Rattle.decimal_topologies.proofs.Nested.{each_is, geometry_is, list_is}
 
 -- ---- parts
 
-module _ {X Y C : Type 0} (M : Json → X → C → C → Type 0) (of : Json → List Pair) (f : X → Y) (P : Y → Type 0)
-    (part : (j : Json) (x : X) (a b : C) → M j x a b → P (f x) → of j ≡ []) where
-  each_none : (i : ℕ) (js : Items) (xs : List X) (a b : C) → ItemsMean M js xs a b → AllByRecursion P (map f xs) → each_faults of i js ≡ []
+module _ {X C : Type 0} (M : Json → X → C → C → Type 0) (of : Json → List Pair) (P : X → Type 0)
+    (part : (j : Json) (x : X) (a b : C) → M j x a b → P x → of j ≡ []) where
+  each_none : (i : ℕ) (js : Items) (xs : List X) (a b : C) → ItemsMean M js xs a b → AllByRecursion P xs → each_faults of i js ≡ []
   each_none i no_items [] a b h left = refl
   each_none i no_items (x ∷ xs) a b h left = absurd h
   each_none i (item j js) [] a b h left = absurd h
   each_none i (item j js) (x ∷ xs) a b h left = ap₂ (λ ps qs. under (index i) ps ++ qs) (part j x a h.0 h.1 left.0) (each_none (i + 1) js xs h.0 b h.2 left.1)
 
   -- the faults of a list
-  pub list_none : (j : Json) (xs : List X) (a b : C) → ArrayMeans M j xs a b → AllByRecursion P (map f xs) → list_faults of j ≡ []
+  pub list_none : (j : Json) (xs : List X) (a b : C) → ArrayMeans M j xs a b → AllByRecursion P xs → list_faults of j ≡ []
   list_none null xs a b h left = absurd h
   list_none (boolean v) xs a b h left = absurd h
   list_none (number s) xs a b h left = absurd h
@@ -64,14 +62,14 @@ pub either_none : (b : Bool) (ps : List Pair) → ps ≡ [] → (if b then ps el
 either_none true ps e = e
 either_none false ps e = refl
 
-all_unit : {X : Type 0} (xs : List X) → AllByRecursion (λ x. Unit {0}) (map (λ x. x) xs)
+all_unit : {X : Type 0} (xs : List X) → AllByRecursion (λ x. Unit {0}) xs
 all_unit [] = tt
 all_unit (x ∷ xs) = (tt, all_unit xs)
 
 -- ---- coordinates and arcs
 
 positions_none : (q : Quantization) (j : Json) (ps : List Pos) (a b : Tally) → ArrayMeans (IsPlaced q) j ps a b → list_faults (position_faults q) j ≡ []
-positions_none q j ps a b h = list_none (IsPlaced q) (position_faults q) (λ p. p) (λ p. Unit {0}) (λ k p c d is left. is.faultless) j ps a b h (all_unit ps)
+positions_none q j ps a b h = list_none (IsPlaced q) (position_faults q) (λ p. Unit {0}) (λ k p c d is left. is.faultless) j ps a b h (all_unit ps)
 
 point_none : (q : Quantization) (j : Json) → position_faults q j ≡ [] → point_faults q j ≡ []
 point_none q j e = go (is_nothing (as_array j))
@@ -89,21 +87,21 @@ module _ (t : TopologyParts) (fixing : FixingRules) where
       ap (array_faults (items_faults t.arcs fixing outline)) (sym h.is) ∙ ap (λ qs. unless_faulty qs (stitched_faults t.arcs fixing outline h.items)) h.faultless
       ∙ either_none (are_known t.arcs h.items) _ (ap (λ qs. outline_faults (unfixed_as fixing outline qs)) (sym h.positions) ∙ ap outline_faults left)
 
-  lines_none : (j : Json) (ls : Vec (Vec Pos Global) Global) (a b : Tally) → AreLines t j ls a b → AllByRecursion (IsFixableLine fixing) (lists_in ls.items) → list_faults (arcs_outline_faults t.arcs fixing Line) j ≡ []
-  lines_none j ls a b h left = list_none (IsLine t) (arcs_outline_faults t.arcs fixing Line) (λ list. list.items) (IsFixableLine fixing) (λ k ps c d. outline_none Line k ps.items c d) j ls.items a b h left
+  lines_none : (j : Json) (ls : List (List Pos)) (a b : Tally) → AreLines t j ls a b → AllByRecursion (IsFixableLine fixing) ls → list_faults (arcs_outline_faults t.arcs fixing Line) j ≡ []
+  lines_none j ls a b h left = list_none (IsLine t) (arcs_outline_faults t.arcs fixing Line) (IsFixableLine fixing) (outline_none Line) j ls a b h left
 
-  rings_none : (j : Json) (ls : Vec (Vec Pos Global) Global) (a b : Tally) → AreLines t j ls a b → AllByRecursion (IsFixableRing fixing) (lists_in ls.items) → list_faults (arcs_outline_faults t.arcs fixing Ring) j ≡ []
-  rings_none j ls a b h left = list_none (IsLine t) (arcs_outline_faults t.arcs fixing Ring) (λ list. list.items) (IsFixableRing fixing) (λ k ps c d. outline_none Ring k ps.items c d) j ls.items a b h left
+  rings_none : (j : Json) (ls : List (List Pos)) (a b : Tally) → AreLines t j ls a b → AllByRecursion (IsFixableRing fixing) ls → list_faults (arcs_outline_faults t.arcs fixing Ring) j ≡ []
+  rings_none j ls a b h left = list_none (IsLine t) (arcs_outline_faults t.arcs fixing Ring) (IsFixableRing fixing) (outline_none Ring) j ls a b h left
 
-  shape_none : (j : Json) (s : RawShape) (a b : Tally) → IsShape t j s a b → IsFixable fixing (seen_shape s) → body_faults t fixing (kind_of s) j ≡ []
+  shape_none : (j : Json) (s : RawShape) (a b : Tally) → IsShape t j s a b → IsFixable fixing s → body_faults t fixing (kind_of s) j ≡ []
   shape_none j raw.Null a b h left = empty_none t.quantization j h.0
   shape_none j (raw.Point p) a b h left = point_none t.quantization j h.faultless
-  shape_none j (raw.MultiPoint ps) a b h left = positions_none t.quantization j ps.items a b h
-  shape_none j (raw.Line ps) a b h left = outline_none Line j ps.items a b h left
+  shape_none j (raw.MultiPoint ps) a b h left = positions_none t.quantization j ps a b h
+  shape_none j (raw.Line ps) a b h left = outline_none Line j ps a b h left
   shape_none j (raw.MultiLine ls) a b h left = lines_none j ls a b h left
   shape_none j (raw.Polygon ls) a b h left = rings_none j ls a b h left
   shape_none j (raw.MultiPolygon gs) a b h left =
-      list_none (AreLines t) (list_faults (arcs_outline_faults t.arcs fixing Ring)) (λ polygon. lists_in polygon.items) (AllByRecursion (IsFixableRing fixing)) rings_none j gs.items a b h left
+      list_none (AreLines t) (list_faults (arcs_outline_faults t.arcs fixing Ring)) (AllByRecursion (IsFixableRing fixing)) rings_none j gs a b h left
 
   -- ---- geometry objects
 
@@ -114,7 +112,7 @@ module _ (t : TopologyParts) (fixing : FixingRules) where
     pub split : form ≡ Some Collection → fixing.splits_collections ≡ true
     pub none : content_faults t fixing j form ≡ []
 
-  one_sound : (j : Json) (s : RawShape) (a b : Tally) → IsOne t j s a b → IsFixable fixing (seen_shape s) → IsSound j
+  one_sound : (j : Json) (s : RawShape) (a b : Tally) → IsOne t j s a b → IsFixable fixing s → IsSound j
   one_sound j s a b (inl h) left = record { form = None; is = h.typed; split = λ e. absurd (cc); none = refl }
   one_sound j s a b (inr h) left = record {
     form = Some (Simple h.kind);
@@ -143,12 +141,12 @@ module _ (t : TopologyParts) (fixing : FixingRules) where
   geometry_none : (j : Json) → IsSound j → geometry_faults t fixing j ≡ []
   geometry_none j h = geometry_is t fixing j ∙ form_none (content_faults t fixing j) j h.form h.is h.split h.none
 
-  shapes_none : {js : Items} {ss : List RawShape} {a b : Tally} → AreShapes t js ss a b → fixing.splits_collections ≡ true → (i : ℕ) → AllByRecursion (IsFixable fixing) (map seen_shape ss) → each_faults (geometry_faults t fixing) i js ≡ []
+  shapes_none : {js : Items} {ss : List RawShape} {a b : Tally} → AreShapes t js ss a b → fixing.splits_collections ≡ true → (i : ℕ) → AllByRecursion (IsFixable fixing) ss → each_faults (geometry_faults t fixing) i js ≡ []
   shapes_none (AreShapes.none a) split i left = refl
   shapes_none (AreShapes.one j js s ss a b c first others) split i left =
       ap₂ (λ ps qs. under (index i) ps ++ qs) (geometry_none j (one_sound j s a b first left.0)) (shapes_none others split (i + 1) left.1)
   shapes_none (AreShapes.nested j js inner rs ss a b c has within others) split i left =
-      let parts = (all_both seen_shape (IsFixable fixing) rs ss).0 left in
+      let parts = (all_both (IsFixable fixing) rs ss).0 left in
       ap₂ (λ ps qs. under (index i) ps ++ qs) (geometry_none j (collection_sound j inner has split (each_is t fixing 0 inner ∙ shapes_none within split 0 parts.0))) (shapes_none others split (i + 1) parts.1)
 
   -- a geometry of which the rules leave something

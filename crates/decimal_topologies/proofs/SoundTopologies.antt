@@ -13,7 +13,6 @@ use Rattle.decimal_maps.specs.declared.feature.RawFeature.{RawFeature}
 use Rattle.decimal_maps.specs.declared.rules.MapRules.{MapRules}
 use Rattle.decimal_faults.specs.Laws.{AreLeft, IsLeft}
 use Rattle.decimal_faults.specs.Parts.{list_faults, member_faults}
-use Rattle.decimal_faults.proofs.SoundParts.{all_same}
 use Rattle.decimal_topologies.specs.Features.{IsFeature, IsLayer, IsLayerBy, feature_faults, feature_members_faults, has_features, layer_faults}
 use Rattle.decimal_topologies.specs.Geometries.{TopologyParts}
 use Rattle.decimal_topologies.specs.Laws.{AreLayersLeft, TopologiesAreSound}
@@ -47,7 +46,7 @@ module _ (t : TopologyParts) (rules : MapRules) (fixing : FixingRules) where
       go : (b : Bool) → IsLayerBy t rules j fs b → (if b then member_faults (codes "geometries") (list_faults (feature_faults t rules fixing)) j else feature_faults t rules fixing j) ≡ []
       go true h =
           member_none (codes "geometries") (list_faults (feature_faults t rules fixing)) j h.geometries h.there
-          (list_none (λ k f (a b : Unit {0}). IsFeature t rules k f) (feature_faults t rules fixing) (λ f. f) (IsLeft fixing) (λ k f a b. feature_none k f) h.geometries fs tt tt h.each ((all_same (IsLeft fixing) fs).0 left))
+          (list_none (λ k f (a b : Unit {0}). IsFeature t rules k f) (feature_faults t rules fixing) (IsLeft fixing) (λ k f a b. feature_none k f) h.geometries fs tt tt h.each left)
       go false h = feature_none j h.feature h.is (subst (AreLeft fixing) h.only left).0
 
   layers_none : (ls : Named) (xs : List TopologyLayer) → AreNamedLayers t rules ls xs → AreLayersLeft fixing xs → layers_faults t rules fixing ls ≡ []

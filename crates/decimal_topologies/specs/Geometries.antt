@@ -1,7 +1,6 @@
 -- Geometry objects of a topology: their faults, and what they mean [TopoJSON, 2.2].
-use Rattle.std.specs.Prelude.{◌≡◌, ◌⊎◌, ℕ, ◌+◌, List, [], ◌∷◌, ◌++◌, Option, Some, None, Result, Ok, Err, Vec, codes, if◌then◌else◌}
+use Rattle.std.specs.Prelude.{◌≡◌, ◌⊎◌, ℕ, ◌+◌, List, [], ◌∷◌, ◌++◌, Option, Some, None, Result, Ok, Err, codes, if◌then◌else◌}
 use Rattle.std.specs.Str.{bytes_eq}
-use Rattle.std.specs.declared.alloc.Global.{Global}
 use Rattle.json.specs.Json.{Json, null, boolean, number, string, array, object, Items, no_items, item, Members, no_members, member}
 use Rattle.json.specs.Find.{as_array, get}
 use Rattle.faults.specs.Path.{name, index}
@@ -10,8 +9,8 @@ use Rattle.faults.specs.declared.fault.FaultKind.{FaultKind}
 use Rattle.faults.specs.declared.fault.FaultKind.TheVariants.{Missing, WrongKind, UnknownType}
 use Rattle.fixing.specs.declared.raw.RawGeometry.{RawGeometry}
 use Rattle.fixing.specs.declared.raw.RawGeometry.TheVariants as geometry
-use Rattle.fixing.specs.declared.raw.RawShape.{RawShape}
-use Rattle.fixing.specs.declared.raw.RawShape.TheVariants as raw
+use Rattle.fixing.specs.Forms.{RawShape}
+use Rattle.fixing.specs.Forms as raw
 use Rattle.fixing.specs.declared.rules.FixingRules.{FixingRules}
 use Rattle.grid.specs.declared.pos.Pos.{Pos}
 use Rattle.reading.specs.Fault.{here, under}
@@ -159,22 +158,22 @@ content_faults t fixing j (Some Collection) = member_faults (codes "geometries")
 -- ---- meaning
 
 -- the positions that a list of numbers of arcs is stitched to
-abbrev pub IsLine : TopologyParts → Json → Vec Pos Global → Tally → Tally → Type 0
-IsLine t j ps a b = IsStitched t.arcs j ps.items a b
+abbrev pub IsLine : TopologyParts → Json → List Pos → Tally → Tally → Type 0
+IsLine t = IsStitched t.arcs
 
 -- a list of such lists
-abbrev pub AreLines : TopologyParts → Json → Vec (Vec Pos Global) Global → Tally → Tally → Type 0
-AreLines t j ls a b = ArrayMeans (IsLine t) j ls.items a b
+abbrev pub AreLines : TopologyParts → Json → List (List Pos) → Tally → Tally → Type 0
+AreLines t = ArrayMeans (IsLine t)
 
 -- the shape that coordinates or arcs are [TopoJSON, 2.2.1 to 2.2.6]; its positions are counted
 abbrev pub IsShape : TopologyParts → Json → RawShape → Tally → Tally → Type 0
 IsShape t j raw.Null a b = (j ≡ array no_items) × (b ≡ a)
 IsShape t j (raw.Point p) a b = IsPlaced t.quantization j p a b
-IsShape t j (raw.MultiPoint ps) a b = ArrayMeans (IsPlaced t.quantization) j ps.items a b
+IsShape t j (raw.MultiPoint ps) a b = ArrayMeans (IsPlaced t.quantization) j ps a b
 IsShape t j (raw.Line ps) a b = IsLine t j ps a b
 IsShape t j (raw.MultiLine ls) a b = AreLines t j ls a b
 IsShape t j (raw.Polygon ls) a b = AreLines t j ls a b
-IsShape t j (raw.MultiPolygon gs) a b = ArrayMeans (AreLines t) j gs.items a b
+IsShape t j (raw.MultiPolygon gs) a b = ArrayMeans (AreLines t) j gs a b
 
 -- the same in a geometry of that type
 abbrev pub IsShapeOf : TopologyParts → GeometryType → Json → RawShape → Tally → Tally → Type 0

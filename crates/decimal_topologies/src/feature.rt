@@ -159,7 +159,10 @@ pub fn make_layer(
     ensures refused { result ≡ Err Stop.Unread → (fixing : Rules) → layer_faults (parts_of of.now.topology.now) of.now.rules.now fixing (value_view value.now) ≢ [] }
 {
     if has_features(value) {
-        return make_member(alloc, &ListOf { of: *of }, value, "geometries", &mut ());
+        return match make_member(alloc, &ListOf { of: *of }, value, "geometries", &mut ()) {
+            Ok(features) => Ok(features.into_vec()),
+            Err(stop) => Err(stop),
+        };
     }
     match of.make(alloc, value, &mut ()) {
         Ok(feature) => only(alloc, feature),

@@ -1,7 +1,7 @@
 //! Geometry objects, and collections of them (TopoJSON, section 2.2).
 ghost use Rattle.decimal_faults.specs.Parts.{member_faults};
 ghost use Rattle.decimal_topologies.specs.Geometries.{AreShapes, HasShapes, IsCollection, IsGeometry, IsOne, body_faults, body_name as named_body, content_faults, each_geometry_faults, form_of as form_in, form_or_null as named_or_null, form_under as form_in_under, geometries_faults, geometry_faults, parts_of};
-ghost use Rattle.fixing.specs.declared.raw.RawShape.{RawShape as Raw};
+ghost use Rattle.fixing.specs.Forms.{RawShape as Raw};
 ghost use Rattle.fixing.specs.declared.rules.FixingRules.{FixingRules as Rules};
 ghost use Rattle.json.specs.Value.{value_view, items_view};
 ghost use Rattle.reading.specs.FaultLists.Found.{pairs_of};

@@ -18,6 +18,7 @@ use faults::fault::{Fault, FaultKind};
 use fixing::FixingRules;
 use grid::Pos;
 use json::Value;
+use lines::items::Items;
 use reading::fault_lists::found::{Wanted, is_enough, one, put_under_index};
 use std::alloc::Global;
 
@@ -195,8 +196,8 @@ fn stitch(
     arcs: &[Option<Vec<Place>>],
     values: &[Value<'_>],
     tally: &mut Tally,
-) -> Result<Vec<Pos>, Stop>
-    ensures made { IfOk result (λ ps. ps.items ≡ positions_along (seen_arcs arcs.now) (items_view values.now)) }
+) -> Result<Items<Pos>, Stop>
+    ensures made { IfOk result (λ ps. ps ≡ positions_along (seen_arcs arcs.now) (items_view values.now)) }
     ensures counted { OnOk result (tally.new ≡ with_places (stitched (seen_arcs arcs.now) (items_view values.now)) tally.old) }
     ensures memory { result ≢ Err Stop.Unread }
 {
@@ -204,7 +205,7 @@ fn stitch(
     for i in 0..values.len() {
         put_arc(&mut found, arcs, &values[i], i > 0, tally)?;
     }
-    Ok(found)
+    Ok(Items::from_vec(found))
 }
 
 // Whether the places along the arc are known that a value names.
@@ -269,9 +270,9 @@ fn make_items(
     arcs: &[Option<Vec<Place>>],
     values: &[Value<'_>],
     count: &mut Tally,
-) -> Result<Vec<Pos>, Stop>
+) -> Result<Items<Pos>, Stop>
     ensures faultless { OnOk result (numbers_faults (seen_arcs arcs.now) None 0 (items_view values.now) ≡ []) }
-    ensures made { IfOk result (λ ps. ps.items ≡ positions_along (seen_arcs arcs.now) (items_view values.now)) }
+    ensures made { IfOk result (λ ps. ps ≡ positions_along (seen_arcs arcs.now) (items_view values.now)) }
     ensures counted { OnOk result (count.new ≡ with_places (stitched (seen_arcs arcs.now) (items_view values.now)) count.old) }
     ensures refused { result ≡ Err Stop.Unread → numbers_faults (seen_arcs arcs.now) None 0 (items_view values.now) ≢ [] }
 {
@@ -293,13 +294,13 @@ pub struct StitchedTo<'t> {
 }
 
 impl<'t> Part for StitchedTo<'t> {
-    type Made = Vec<Pos>;
+    type Made = Items<Pos>;
 
     type Count = Tally;
 
     ghost faults = { λ p fixing. arcs_outline_faults (seen_arcs p.arcs.now) fixing p.outline };
 
-    ghost means = { λ p j xs a b. IsStitched (seen_arcs p.arcs.now) j xs.items a b };
+    ghost means = { λ p. IsStitched (seen_arcs p.arcs.now) };
 
     fn judge(
         &self,
@@ -313,7 +314,12 @@ impl<'t> Part for StitchedTo<'t> {
         }
     }
 
-    fn make(&self, alloc: Global, value: &Value<'_>, count: &mut Tally) -> Result<Vec<Pos>, Stop> {
+    fn make(
+        &self,
+        alloc: Global,
+        value: &Value<'_>,
+        count: &mut Tally,
+    ) -> Result<Items<Pos>, Stop> {
         match items_of(value) {
             Some(items) => make_items(alloc, self.arcs, items, count),
             None => Err(Stop::Unread),

@@ -7,9 +7,9 @@ use Rattle.lines.specs.Reading.{collapsed, line_fault, ring_fault, ring_of}
 use Rattle.lines.specs.Turned.{position_cmp}
 use Rattle.lines.specs.declared.shape_fault.ShapeFault.{ShapeFault}
 use Rattle.lines.specs.declared.shape_fault.ShapeFault.TheVariants as fault
-use Rattle.theory.specs.Topology.{null, point, points, line, lines, polygon, polygons}
+use Rattle.shapes.specs.declared.form.Form.TheVariants.{Null as null, Point as point, MultiPoint as points, Line as line, MultiLine as lines, Polygon as polygon, MultiPolygon as polygons}
 use Rattle.fixing.specs.Fixable.{FixableGeometriesAreLeft, FixableLinesAreLeft, FixableRingsAreLeft, IsFixable, IsFixableGeometry, IsFixableLine, IsFixableRing}
-use Rattle.fixing.specs.Forms.{PlainForm, PlainGeometry, one, collection}
+use Rattle.fixing.specs.Forms.{RawShape, PlainGeometry, one, collection}
 use Rattle.fixing.specs.Geometries.{form_left, forms_left, geometry_left, is_null, line_form, or_lost, polygon_form, shown_left}
 use Rattle.fixing.specs.Left.{all_left, closed_list, is_refusing, left_by, line_left, lines_left, need_of, ring_left, unfixed}
 use Rattle.fixing.specs.Loops.{loops_of}
@@ -76,7 +76,7 @@ module _ (rules : FixingRules) where
   polygons_are_left rs =
       mapped (map (map (ring_of position_cmp))) (polygon_left rules rs) (mapped (map (rewound_polygon rules.rewind)) (polygon_kept rules rs) (rings_are_left rs))
 
-  pub form_is_left : (form : PlainForm) → IsSome (form_left rules form) ↔ IsFixable rules form
+  pub form_is_left : (form : RawShape) → IsSome (form_left rules form) ↔ IsFixable rules form
   form_is_left null = ((λ h. tt), (λ h. refl))
   form_is_left (point p) = ((λ h. tt), (λ h. refl))
   form_is_left (points ps) = ((λ h. tt), (λ h. refl))
@@ -90,16 +90,16 @@ module _ (rules : FixingRules) where
       mapped (polygon_form true) (all_left (polygons_left rules) (p ∷ ps))
       (all_are_left (polygons_left rules) (AllByRecursion (IsFixableRing rules)) polygons_are_left (p ∷ ps))
 
-  forms_are_left : (forms : List PlainForm) → IsSome (forms_left rules forms) ↔ AllByRecursion (IsFixable rules) forms
+  forms_are_left : (forms : List RawShape) → IsSome (forms_left rules forms) ↔ AllByRecursion (IsFixable rules) forms
   forms_are_left forms =
       mapped (or_lost rules) (all_left (shown_left rules) forms)
       (all_are_left (shown_left rules) (IsFixable rules) (λ form. mapped (λ left. cond (is_null left) [] (left ∷ [])) (form_left rules form) (form_is_left form)) forms)
 
-  one_is_left : (b : Bool) (form : PlainForm) → (b ≡ true → IsFixable rules form) → IsSome (cond b (Some (null ∷ [])) (forms_left rules (form ∷ []))) ↔ IsFixable rules form
+  one_is_left : (b : Bool) (form : RawShape) → (b ≡ true → IsFixable rules form) → IsSome (cond b (Some (null ∷ [])) (forms_left rules (form ∷ []))) ↔ IsFixable rules form
   one_is_left true form h = ((λ k. h refl), (λ k. refl))
   one_is_left false form h = let is = forms_are_left (form ∷ []) in ((λ k. (is.0 k).0), (λ k. is.1 (k, tt)))
 
-  null_is_left : (form : PlainForm) → is_null form ≡ true → IsFixable rules form
+  null_is_left : (form : RawShape) → is_null form ≡ true → IsFixable rules form
   null_is_left null e = tt
   null_is_left (point p) e = tt
   null_is_left (points ps) e = tt
@@ -108,7 +108,7 @@ module _ (rules : FixingRules) where
   null_is_left (polygon rs) e = absurd cc
   null_is_left (polygons ps) e = absurd cc
 
-  split_is_left : (b : Bool) (forms : List PlainForm) → IsSome (cond b (forms_left rules forms) None) ↔ ((b ≡ true) × AllByRecursion (IsFixable rules) forms)
+  split_is_left : (b : Bool) (forms : List RawShape) → IsSome (cond b (forms_left rules forms) None) ↔ ((b ≡ true) × AllByRecursion (IsFixable rules) forms)
   split_is_left true forms = let is = forms_are_left forms in ((λ k. (refl, is.0 k)), (λ k. is.1 k.1))
   split_is_left false forms = ((λ k. absurd cc), (λ k. absurd (let e : false ≡ true = k.0 in cc)))
 

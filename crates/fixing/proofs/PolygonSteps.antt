@@ -3,23 +3,22 @@ use Rattle.std.proofs.Common.{◌≡◌, ◌<◌, ◌≤◌, ℕ, ◌+◌, zero,
 use Rattle.std.proofs.Math.ListN.{set}
 use Rattle.std.specs.Option.{option_map}
 use Rattle.std.specs.declared.alloc.Global.{Global}
-use Rattle.std.proofs.lemmas.List.{map-append}
 use Rattle.grid.specs.declared.pos.Pos.{Pos}
 use Rattle.fixing.specs.Polygons.{home_of, is_home, put_ring}
-use Rattle.fixing.specs.Seen.{lists_in, polygons_in}
+use Rattle.fixing.specs.Seen.{polygons_in}
 
 -- a ring put into the polygon at a place
-pub put_told : (ps : List (Vec (Vec Pos Global) Global)) (k : ℕ) (d new : Vec (Vec Pos Global) Global) (ring : Vec Pos Global) → k < length ps →
-    new.items ≡ (get_or ps k d).items ++ (ring ∷ []) → polygons_in (set ps k new) ≡ put_ring k ring.items (polygons_in ps)
+pub put_told : (ps : List (Vec (List Pos) Global)) (k : ℕ) (d new : Vec (List Pos) Global) (ring : List Pos) → k < length ps →
+    new.items ≡ (get_or ps k d).items ++ (ring ∷ []) → polygons_in (set ps k new) ≡ put_ring k ring (polygons_in ps)
 put_told [] k d new ring h e = absurd (omega arith)
-put_told (p ∷ ps) zero d new ring h e = ap (λ w. w ∷ polygons_in ps) (ap lists_in e ∙ map-append (λ v. v.items) p.items (ring ∷ []))
-put_told (p ∷ ps) (suc k) d new ring h e = ap (λ w. lists_in p.items ∷ w) (put_told ps k d new ring (omega (arith, h)) e)
+put_told (p ∷ ps) zero d new ring h e = ap (λ w. w ∷ polygons_in ps) e
+put_told (p ∷ ps) (suc k) d new ring h e = ap (λ w. p.items ∷ w) (put_told ps k d new ring (omega (arith, h)) e)
 
 -- past the last
-pub put_past : (ps : List (Vec (Vec Pos Global) Global)) (k : ℕ) (ring : List Pos) → length ps ≤ k → polygons_in ps ≡ put_ring k ring (polygons_in ps)
+pub put_past : (ps : List (Vec (List Pos) Global)) (k : ℕ) (ring : List Pos) → length ps ≤ k → polygons_in ps ≡ put_ring k ring (polygons_in ps)
 put_past [] k ring h = refl
 put_past (p ∷ ps) zero ring h = absurd (omega (arith, h))
-put_past (p ∷ ps) (suc k) ring h = ap (λ w. lists_in p.items ∷ w) (put_past ps k ring (omega (arith, h)))
+put_past (p ∷ ps) (suc k) ring h = ap (λ w. p.items ∷ w) (put_past ps k ring (omega (arith, h)))
 
 module _ (ring : List Pos) (whole : Option ℕ) (place : ℕ) where
   -- the first home among those that are left is that among all

@@ -4,14 +4,14 @@ use Rattle.std.specs.Option.{option_map}
 use Rattle.grid.specs.declared.pos.Pos.{Pos}
 use Rattle.theory.specs.LinesAndRings.{closed}
 use Rattle.theory.specs.Lists.{Each}
-use Rattle.theory.specs.Topology.{null, point, points, line, lines, polygon, polygons}
+use Rattle.shapes.specs.declared.form.Form.TheVariants.{Null as null, Point as point, MultiPoint as points, Line as line, MultiLine as lines, Polygon as polygon, MultiPolygon as polygons}
 use Rattle.lines.specs.Positions.{position_same, position_total}
 use Rattle.lines.specs.Reading.{collapsed, line_fault, ring_of}
 use Rattle.lines.specs.Turned.{position_cmp}
 use Rattle.lines.proofs.ReadsItself.{line_without_fault, trail_collapses}
 use Rattle.lines.proofs.Trails.{line_accepted}
 use Rattle.fixing.specs.Counts.{no_fixes}
-use Rattle.fixing.specs.Forms.{PlainForm}
+use Rattle.fixing.specs.Forms.{RawShape}
 use Rattle.fixing.specs.Geometries.{form_counted, form_left, line_form, polygon_form}
 use Rattle.fixing.specs.Laws.{EachRing, HasArea, HaveAreas, ShapesLeftStay, closed_form}
 use Rattle.fixing.specs.Left.{all_counted, all_left, line_counted, line_left, lines_left}
@@ -63,7 +63,7 @@ module _ (rules : FixingRules) where
   line_stays l h = ap (option_map (map (collapsed position_cmp))) (sound_lines_stay rules l no_fixes h.0).0 ∙ ap (λ w. Some (w ∷ [])) h.1
 
   -- a shape that stays
-  abbrev Stays : PlainForm → Type 0
+  abbrev Stays : RawShape → Type 0
   Stays form = (fixes : Fixes) → (form_left rules (closed_form form) ≡ Some form) × (form_counted rules (closed_form form) fixes ≡ fixes)
 
   lines_stay : (ls : List (List Pos)) → Each IsRead ls → (all_left (lines_left rules) ls ≡ Some ls) × ((fixes : Fixes) → all_counted (line_counted rules) ls fixes ≡ fixes)
@@ -174,15 +174,15 @@ module _ (rules : FixingRules) where
 
   -- ---- shapes
 
-  stays_left : (form left : PlainForm) → Some form ≡ Some left → Stays form → Stays left
+  stays_left : (form left : RawShape) → Some form ≡ Some left → Stays form → Stays left
   stays_left form left e h = let same : form ≡ left = cc in subst Stays same h
 
-  lines_form : (was_multi : Bool) (o : Option (List (List Pos))) (left : PlainForm) → ((ls : List (List Pos)) → o ≡ Some ls → Each IsRead ls) →
+  lines_form : (was_multi : Bool) (o : Option (List (List Pos))) (left : RawShape) → ((ls : List (List Pos)) → o ≡ Some ls → Each IsRead ls) →
       option_map (line_form was_multi) o ≡ Some left → Stays left
   lines_form was_multi None left f h = absurd cc
   lines_form was_multi (Some ls) left f h = stays_left (line_form was_multi ls) left h (line_form_stays was_multi ls (f ls refl))
 
-  polygons_form : (was_multi : Bool) (o : Option (List (List (List Pos)))) (left : PlainForm) →
+  polygons_form : (was_multi : Bool) (o : Option (List (List (List Pos)))) (left : RawShape) →
       ((ps : List (List (List Pos))) → o ≡ Some ps → EachRing (λ r. HasArea (closed r)) ps → AreMade ps) →
       option_map (polygon_form was_multi) o ≡ Some left → HaveAreas left → Stays left
   polygons_form was_multi None left f h fits = absurd cc
@@ -190,7 +190,7 @@ module _ (rules : FixingRules) where
       let same : polygon_form was_multi ps ≡ left = cc in
       subst Stays same (polygon_form_stays was_multi ps (f ps refl (form_areas was_multi ps (subst HaveAreas (sym same) fits))))
 
-  shape_stays : (form left : PlainForm) → form_left rules form ≡ Some left → HaveAreas left → Stays left
+  shape_stays : (form left : RawShape) → form_left rules form ≡ Some left → HaveAreas left → Stays left
   shape_stays null left e fits = stays_left null left e (λ fixes. (refl, refl))
   shape_stays (point p) left e fits = stays_left (point p) left e (λ fixes. (refl, refl))
   shape_stays (points ps) left e fits = stays_left (points ps) left e (λ fixes. (refl, refl))

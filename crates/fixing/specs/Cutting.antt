@@ -4,9 +4,8 @@ use Rattle.std.specs.BTreeSet.{contains}
 use Rattle.grid.specs.declared.pos.Pos.{Pos}
 use Rattle.lines.specs.Pairs.{pair_cmp}
 use Rattle.fixing.specs.Runs.{runs_on}
-use Rattle.fixing.specs.Seen.{lists_in}
 use Rattle.fixing.specs.declared.runs.Cutting.{Cutting}
 
 -- the runs, where the way goes on along a list
 abbrev pub runs_left : Cutting → List Pos → List (List Pos)
-runs_left way l = lists_in way.ended.items ++ runs_on (contains pair_cmp way.used) way.run.items way.here l
+runs_left way l = way.ended.items ++ runs_on (contains pair_cmp way.used) way.run.items way.here l

@@ -4,8 +4,8 @@ use Rattle.std.specs.List.{AllByRecursion}
 use Rattle.grid.specs.declared.pos.Pos.{Pos}
 use Rattle.lines.specs.Reading.{line_fault, ring_fault}
 use Rattle.lines.specs.Turned.{position_cmp}
-use Rattle.theory.specs.Topology.{null, point, points, line, lines, polygon, polygons}
-use Rattle.fixing.specs.Forms.{PlainForm, PlainGeometry, one, collection}
+use Rattle.shapes.specs.declared.form.Form.TheVariants.{Null as null, Point as point, MultiPoint as points, Line as line, MultiLine as lines, Polygon as polygon, MultiPolygon as polygons}
+use Rattle.fixing.specs.Forms.{RawShape, PlainGeometry, one, collection}
 use Rattle.fixing.specs.Geometries.{geometry_left}
 use Rattle.fixing.specs.Left.{closed_list, line_left, ring_left, unfixed}
 use Rattle.fixing.specs.declared.rules.FixingRules.{FixingRules}
@@ -19,7 +19,7 @@ abbrev pub IsFixableRing : FixingRules → List Pos → Type 0
 IsFixableRing rules l = unfixed rules (ring_fault position_cmp (closed_list rules l)) ≡ None
 
 -- nor has any line or ring of a shape
-abbrev pub IsFixable : FixingRules → PlainForm → Type 0
+abbrev pub IsFixable : FixingRules → RawShape → Type 0
 IsFixable rules null = Unit {0}
 IsFixable rules (point p) = Unit {0}
 IsFixable rules (points ps) = Unit {0}

@@ -7,9 +7,9 @@ use Rattle.lines.specs.Turned.{position_cmp}
 use Rattle.lines.specs.declared.pair.PositionPair.{PositionPair}
 use Rattle.lines.specs.declared.shape_fault.ShapeFault.TheVariants.{NotClosed}
 use Rattle.theory.specs.LinesAndRings.{IsRing, closed}
-use Rattle.theory.specs.Topology.{polygon, polygons}
+use Rattle.shapes.specs.declared.form.Form.TheVariants.{Polygon as polygon, MultiPolygon as polygons}
 use Rattle.theory.specs.Lists.{Distinct, Each, gathered, last_of}
-use Rattle.fixing.specs.Forms.{PlainForm}
+use Rattle.fixing.specs.Forms.{RawShape}
 use Rattle.fixing.specs.Geometries.{form_counted, form_left}
 use Rattle.fixing.specs.Left.{all_counted, all_left, closed_list, is_open, line_counted, line_left, ring_counted, ring_left}
 use Rattle.fixing.specs.Loops.{loops_of}
@@ -109,13 +109,13 @@ TurnedRingsStay =
     (rewind : Rewind) (is_outer : Bool) (l : List Pos) → HasArea l → rewound rewind is_outer (rewound rewind is_outer l) ≡ rewound rewind is_outer l
 
 -- a shape that was fixed as it is read again: each ring by its closed list
-abbrev pub closed_form : PlainForm → PlainForm
+abbrev pub closed_form : RawShape → RawShape
 closed_form (polygon rs) = polygon (map closed rs)
 closed_form (polygons ps) = polygons (map (map closed) ps)
 closed_form form = form
 
 -- the areas of the rings of a shape that was fixed don't wrap
-abbrev pub HaveAreas : PlainForm → Type 0
+abbrev pub HaveAreas : RawShape → Type 0
 HaveAreas (polygon rs) = Each (λ r. HasArea (closed r)) rs
 HaveAreas (polygons ps) = EachRing (λ r. HasArea (closed r)) ps
 HaveAreas form = Unit {0}
@@ -123,5 +123,5 @@ HaveAreas form = Unit {0}
 -- what is left of a shape is left as it is when it is fixed again, and nothing is counted: fixing is idempotent
 abbrev pub ShapesLeftStay : Type 0
 ShapesLeftStay =
-    (rules : FixingRules) (form left : PlainForm) (fixes : Fixes) → form_left rules form ≡ Some left → HaveAreas left →
+    (rules : FixingRules) (form left : RawShape) (fixes : Fixes) → form_left rules form ≡ Some left → HaveAreas left →
     (form_left rules (closed_form left) ≡ Some left) × (form_counted rules (closed_form left) fixes ≡ fixes)

@@ -4,7 +4,6 @@ use Rattle.std.specs.BTreeMap.{get}
 use Rattle.grid.specs.declared.pos.Pos.{Pos}
 use Rattle.lines.specs.Turned.{position_cmp}
 use Rattle.fixing.specs.Loops.{loops_on}
-use Rattle.fixing.specs.Seen.{lists_in}
 use Rattle.fixing.specs.declared.loops.LoopWalk.{LoopWalk}
 
 -- each position of the path is noted with its place there
@@ -13,4 +12,4 @@ IsNoted walk = (k : ℕ) (p : Pos) → slice_get walk.path.items k ≡ Some p �
 
 -- the loops, where the walk goes on along a list
 abbrev pub loops_left : LoopWalk → List Pos → List (List Pos)
-loops_left walk l = lists_in walk.loops.items ++ loops_on walk.path.items l
+loops_left walk l = walk.loops.items ++ loops_on walk.path.items l

@@ -1,11 +1,10 @@
 //! Geometries.
-ghost use Rattle.fixing.specs.Forms.{plain_shape, seen_geometry, seen_shape};
+ghost use Rattle.fixing.specs.Forms.{plain_shape, seen_geometry};
 ghost use Rattle.fixing.specs.Geometries.{form_counted, form_left, forms_left, geometry_counted, geometry_left, is_null as is_null_form, line_form, lost_counted, polygon_form, shown_left};
 ghost use Rattle.fixing.specs.Left.{all_counted, all_left};
-ghost use Rattle.fixing.specs.Seen.{lists_in, polygons_in};
 ghost use Rattle.lines.specs.Seen.{positions_of, vertices_of};
 ghost use Rattle.std.specs.Prelude.{◌≡◌, IfErr, IfOk, OnOk, None, Some, map};
-ghost use Rattle.theory.specs.Topology as form;
+ghost use Rattle.shapes.specs.declared.form.Form.TheVariants as form;
 
 use crate::broken::Broken;
 use crate::linework::{fix_line, fix_lines};
@@ -57,13 +56,13 @@ fn shape_of_polygons(polygons: Vec<Items<Ring>>, was_multi: bool) -> Shape
 /// What is left of a MultiLineString. An empty one stays.
 fn fix_multi_line(
     alloc: Global,
-    lines: Vec<Vec<Pos>>,
+    lines: Vec<Items<Pos>>,
     rules: &FixingRules,
     fixes: &mut Fixes,
 ) -> Result<Shape, Broken>
-    ensures left { IfOk result (λ left. form_left rules.now (form.lines (lists_in lines.items)) ≡ Some (plain_shape left)) }
-    ensures fixes { OnOk result (fixes.new ≡ form_counted rules.now (form.lines (lists_in lines.items)) fixes.old) }
-    ensures refused { IfErr result (λ e. e ≡ Broken.Refused → form_left rules.now (form.lines (lists_in lines.items)) ≡ None) }
+    ensures left { IfOk result (λ left. form_left rules.now (form.MultiLine lines.items) ≡ Some (plain_shape left)) }
+    ensures fixes { OnOk result (fixes.new ≡ form_counted rules.now (form.MultiLine lines.items) fixes.old) }
+    ensures refused { IfErr result (λ e. e ≡ Broken.Refused → form_left rules.now (form.MultiLine lines.items) ≡ None) }
 {
     if lines.is_empty() {
         return Ok(Shape::MultiLine(Items::from_vec(Vec::new(alloc))));
@@ -75,13 +74,13 @@ fn fix_multi_line(
 /// What is left of a MultiPolygon. An empty one stays.
 fn fix_multi_polygon(
     alloc: Global,
-    polygons: Vec<Vec<Vec<Pos>>>,
+    polygons: Vec<Items<Items<Pos>>>,
     rules: &FixingRules,
     fixes: &mut Fixes,
 ) -> Result<Shape, Broken>
-    ensures left { IfOk result (λ left. form_left rules.now (form.polygons (polygons_in polygons.items)) ≡ Some (plain_shape left)) }
-    ensures fixes { OnOk result (fixes.new ≡ form_counted rules.now (form.polygons (polygons_in polygons.items)) fixes.old) }
-    ensures refused { IfErr result (λ e. e ≡ Broken.Refused → form_left rules.now (form.polygons (polygons_in polygons.items)) ≡ None) }
+    ensures left { IfOk result (λ left. form_left rules.now (form.MultiPolygon polygons.items) ≡ Some (plain_shape left)) }
+    ensures fixes { OnOk result (fixes.new ≡ form_counted rules.now (form.MultiPolygon polygons.items) fixes.old) }
+    ensures refused { IfErr result (λ e. e ≡ Broken.Refused → form_left rules.now (form.MultiPolygon polygons.items) ≡ None) }
 {
     if polygons.is_empty() {
         return Ok(Shape::MultiPolygon(Items::from_vec(Vec::new(alloc))));
@@ -97,24 +96,26 @@ fn fix_shape(
     rules: &FixingRules,
     fixes: &mut Fixes,
 ) -> Result<Shape, Broken>
-    ensures left { IfOk result (λ left. form_left rules.now (seen_shape shape) ≡ Some (plain_shape left)) }
-    ensures fixes { OnOk result (fixes.new ≡ form_counted rules.now (seen_shape shape) fixes.old) }
-    ensures refused { IfErr result (λ e. e ≡ Broken.Refused → form_left rules.now (seen_shape shape) ≡ None) }
+    ensures left { IfOk result (λ left. form_left rules.now shape ≡ Some (plain_shape left)) }
+    ensures fixes { OnOk result (fixes.new ≡ form_counted rules.now shape fixes.old) }
+    ensures refused { IfErr result (λ e. e ≡ Broken.Refused → form_left rules.now shape ≡ None) }
 {
     match shape {
         RawShape::Null => Ok(Shape::Null),
         RawShape::Point(position) => Ok(Shape::Point(position)),
-        RawShape::MultiPoint(positions) => Ok(Shape::MultiPoint(Items::from_vec(positions))),
+        RawShape::MultiPoint(positions) => Ok(Shape::MultiPoint(positions)),
         RawShape::Line(line) => {
-            let left = fix_line(alloc, line, rules, fixes)?;
+            let left = fix_line(alloc, line.into_vec(), rules, fixes)?;
             Ok(shape_of_lines(left, false))
         }
-        RawShape::MultiLine(lines) => fix_multi_line(alloc, lines, rules, fixes),
+        RawShape::MultiLine(lines) => fix_multi_line(alloc, lines.into_vec(), rules, fixes),
         RawShape::Polygon(rings) => {
-            let left = fix_polygon(alloc, rings, rules, fixes)?;
+            let left = fix_polygon(alloc, rings.into_vec(), rules, fixes)?;
             Ok(shape_of_polygons(left, false))
         }
-        RawShape::MultiPolygon(polygons) => fix_multi_polygon(alloc, polygons, rules, fixes),
+        RawShape::MultiPolygon(polygons) => {
+            fix_multi_polygon(alloc, polygons.into_vec(), rules, fixes)
+        },
     }
 }
 
@@ -135,9 +136,9 @@ fn fix_shapes(
     rules: &FixingRules,
     fixes: &mut Fixes,
 ) -> Result<Vec<Shape>, Broken>
-    ensures left { IfOk result (λ made. all_left (shown_left rules.now) (map seen_shape shapes.items) ≡ Some (map plain_shape made.items)) }
-    ensures fixes { OnOk result (fixes.new ≡ all_counted (form_counted rules.now) (map seen_shape shapes.items) fixes.old) }
-    ensures refused { IfErr result (λ e. e ≡ Broken.Refused → all_left (shown_left rules.now) (map seen_shape shapes.items) ≡ None) }
+    ensures left { IfOk result (λ made. all_left (shown_left rules.now) shapes.items ≡ Some (map plain_shape made.items)) }
+    ensures fixes { OnOk result (fixes.new ≡ all_counted (form_counted rules.now) shapes.items fixes.old) }
+    ensures refused { IfErr result (λ e. e ≡ Broken.Refused → all_left (shown_left rules.now) shapes.items ≡ None) }
 {
     let mut made = Vec::new(alloc);
     for shape in shapes {
@@ -156,9 +157,9 @@ fn fix_all(
     rules: &FixingRules,
     fixes: &mut Fixes,
 ) -> Result<Vec<Shape>, Broken>
-    ensures left { IfOk result (λ made. forms_left rules.now (map seen_shape shapes.items) ≡ Some (map plain_shape made.items)) }
-    ensures fixes { OnOk result (fixes.new ≡ lost_counted rules.now (map seen_shape shapes.items) fixes.old) }
-    ensures refused { IfErr result (λ e. e ≡ Broken.Refused → forms_left rules.now (map seen_shape shapes.items) ≡ None) }
+    ensures left { IfOk result (λ made. forms_left rules.now shapes.items ≡ Some (map plain_shape made.items)) }
+    ensures fixes { OnOk result (fixes.new ≡ lost_counted rules.now shapes.items fixes.old) }
+    ensures refused { IfErr result (λ e. e ≡ Broken.Refused → forms_left rules.now shapes.items ≡ None) }
 {
     let left = fix_shapes(alloc, shapes, rules, fixes)?;
     if !left.is_empty() {

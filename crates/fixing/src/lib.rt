@@ -19,6 +19,7 @@ mod runs;
 pub use broken::Broken;
 pub use feature::FixedFeature;
 pub use geometry::fix_geometry;
+pub use lines::items::Items;
 pub use linework::{unfixed_line, unfixed_ring};
 pub use measures::area;
 pub use raw::{RawGeometry, RawShape};

@@ -1,6 +1,5 @@
 //! Lines and rings, checked and fixed one by one.
 ghost use Rattle.fixing.specs.Left.{all_counted, all_left, closed_left, closed_list, closed_need as needed_of_closed, counted, left_by as lists_left, line_counted, lines_left, need_of as needed, parts_of, unfixed};
-ghost use Rattle.fixing.specs.Seen.{lists_in};
 ghost use Rattle.lines.specs.Reading.{collapsed, line_fault, ring_fault};
 ghost use Rattle.lines.specs.Seen.{positions_of};
 ghost use Rattle.lines.specs.Turned.{position_cmp};
@@ -15,6 +14,7 @@ use crate::rules::{Collapsed, Fixes, FixingRules};
 use crate::runs::runs_of;
 use faults::OutOfMemory;
 use grid::pos::Pos;
+use lines::items::Items;
 use lines::line::Line;
 use lines::ring::Ring;
 use lines::shape_fault::ShapeFault;
@@ -117,12 +117,12 @@ fn left_by(
     list: Vec<Pos>,
     kind: Linework,
     fixes: &mut Fixes,
-) -> Result<Vec<Vec<Pos>>, AllocError>
-    ensures left { IfOk result (λ lists. lists_in lists.items ≡ lists_left need list.items (parts_of kind list.items)) }
+) -> Result<Vec<Items<Pos>>, AllocError>
+    ensures left { IfOk result (λ lists. lists.items ≡ lists_left need list.items (parts_of kind list.items)) }
     ensures fixes { OnOk result (fixes.new ≡ counted (Some need) fixes.old) }
 {
     match need {
-        Need::Nothing => only(alloc, list),
+        Need::Nothing => only(alloc, Items::from_vec(list)),
         Need::Drop => {
             fixes.collapsed = fixes.collapsed.saturating_add(1);
             Ok(Vec::new(alloc))
@@ -138,13 +138,13 @@ fn left_by(
 }
 
 /// The lines of lists without a fault.
-fn lines_of(alloc: Global, lists: Vec<Vec<Pos>>) -> Result<Vec<Line>, AllocError>
-    requires { Each (λ l. line_fault position_cmp l ≡ None) (lists_in lists.items) }
-    ensures { IfOk result (λ lines. map positions_of lines.items ≡ map (collapsed position_cmp) (lists_in lists.items)) }
+fn lines_of(alloc: Global, lists: Vec<Items<Pos>>) -> Result<Vec<Line>, AllocError>
+    requires { Each (λ l. line_fault position_cmp l ≡ None) lists.items }
+    ensures { IfOk result (λ lines. map positions_of lines.items ≡ map (collapsed position_cmp) lists.items) }
 {
     let mut lines = Vec::with_capacity(alloc, lists.len())?;
     for list in lists {
-        lines.push(Line::from_sound(list))?;
+        lines.push(Line::from_sound(list.into_vec()))?;
     }
     Ok(lines)
 }
@@ -174,17 +174,17 @@ pub(crate) fn fix_line(
 /// The lines that are left of some lines.
 pub(crate) fn fix_lines(
     alloc: Global,
-    lines: Vec<Vec<Pos>>,
+    lines: Vec<Items<Pos>>,
     rules: &FixingRules,
     fixes: &mut Fixes,
 ) -> Result<Vec<Line>, Broken>
-    ensures left { IfOk result (λ made. all_left (lines_left rules.now) (lists_in lines.items) ≡ Some (map positions_of made.items)) }
-    ensures fixes { OnOk result (fixes.new ≡ all_counted (line_counted rules.now) (lists_in lines.items) fixes.old) }
-    ensures refused { IfErr result (λ e. e ≡ Broken.Refused → all_left (lines_left rules.now) (lists_in lines.items) ≡ None) }
+    ensures left { IfOk result (λ made. all_left (lines_left rules.now) lines.items ≡ Some (map positions_of made.items)) }
+    ensures fixes { OnOk result (fixes.new ≡ all_counted (line_counted rules.now) lines.items fixes.old) }
+    ensures refused { IfErr result (λ e. e ≡ Broken.Refused → all_left (lines_left rules.now) lines.items ≡ None) }
 {
     let mut fixed = Vec::with_capacity(alloc, lines.len())?;
     for line in lines {
-        let mut parts = fix_line(alloc, line, rules, fixes)?;
+        let mut parts = fix_line(alloc, line.into_vec(), rules, fixes)?;
         fixed.append(&mut parts)?;
     }
     Ok(fixed)
@@ -196,8 +196,8 @@ pub(crate) fn fix_closed(
     closed: Vec<Pos>,
     rules: &FixingRules,
     fixes: &mut Fixes,
-) -> Result<Vec<Vec<Pos>>, Broken>
-    ensures left { IfOk result (λ parts. closed_left rules.now closed.items ≡ Some (lists_in parts.items)) }
+) -> Result<Vec<Items<Pos>>, Broken>
+    ensures left { IfOk result (λ parts. closed_left rules.now closed.items ≡ Some parts.items) }
     ensures fixes { OnOk result (fixes.new ≡ counted (needed_of_closed rules.now closed.items) fixes.old) }
     ensures refused { IfErr result (λ e. e ≡ Broken.Refused → closed_left rules.now closed.items ≡ None) }
 {

@@ -1,11 +1,11 @@
 //! Rings that use a segment twice, cut into loops.
 ghost use Rattle.fixing.specs.Loops.{loop_kept, loops_of as loops_in, place_on};
-ghost use Rattle.fixing.specs.Seen.{lists_in};
 ghost use Rattle.fixing.specs.Walks.{IsNoted, loops_left};
 ghost use Rattle.grid.specs.declared.pos.Pos.{Pos};
 ghost use Rattle.std.specs.Prelude.{◌≡◌, ◌+◌, ◌<◌, ◌∷◌, ◌++◌, [], IfOk, OnOk, List, drop, take, vec_len};
 
 use grid::pos::Pos;
+use lines::items::Items;
 use std::alloc::{AllocError, Global};
 use std::collections::BTreeMap;
 
@@ -13,7 +13,7 @@ use std::collections::BTreeMap;
 /// are. Positions that the path has no more may be noted too.
 #[derive(Drop)]
 struct LoopWalk {
-    loops: Vec<Vec<Pos>>,
+    loops: Vec<Items<Pos>>,
     path: Vec<Pos>,
     places: BTreeMap<Pos, usize>,
 }
@@ -48,7 +48,7 @@ impl LoopWalk {
     /// Cuts off what is there from a place on, closed by the position there, which stays.
     fn cut_loop(&mut self, alloc: Global, position: Pos, place: usize) -> Result<(), AllocError>
         requires { place < vec_len self.old.path }
-        ensures loops { OnOk result (lists_in self.new.loops.items ≡ lists_in self.old.loops.items ++ loop_kept (drop place self.old.path.items ++ position ∷ [])) }
+        ensures loops { OnOk result (self.new.loops.items ≡ self.old.loops.items ++ loop_kept (drop place self.old.path.items ++ position ∷ [])) }
         ensures path { OnOk result (self.new.path.items ≡ take (place + 1) self.old.path.items) }
         ensures places { self.new.places ≡ self.old.places }
     {
@@ -56,7 +56,7 @@ impl LoopWalk {
         closed.push(position)?;
         self.path.truncate(place + 1);
         if closed.len() > 3 {
-            self.loops.push(closed)?;
+            self.loops.push(Items::from_vec(closed))?;
         }
         Ok(())
     }
@@ -78,8 +78,8 @@ impl LoopWalk {
 
 /// The loops of a ring that meet no position twice, in the order in which they end. Those of less than three
 /// segments, which go to a position and back, are none.
-pub(crate) fn loops_of(alloc: Global, closed: &[Pos]) -> Result<Vec<Vec<Pos>>, AllocError>
-    ensures { IfOk result (λ loops. lists_in loops.items ≡ loops_in closed.now) }
+pub(crate) fn loops_of(alloc: Global, closed: &[Pos]) -> Result<Vec<Items<Pos>>, AllocError>
+    ensures { IfOk result (λ loops. loops.items ≡ loops_in closed.now) }
 {
     let mut walk = LoopWalk::new(alloc);
     for position in closed {

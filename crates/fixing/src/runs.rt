@@ -1,7 +1,6 @@
 //! Lines that use a segment twice, cut where they do.
 ghost use Rattle.fixing.specs.Cutting.{runs_left};
 ghost use Rattle.fixing.specs.Runs.{run_kept, runs_of as runs_in};
-ghost use Rattle.fixing.specs.Seen.{lists_in};
 ghost use Rattle.grid.specs.declared.pos.Pos.{Pos};
 ghost use Rattle.lines.specs.Reading.{collapsed};
 ghost use Rattle.lines.specs.Turned.{position_cmp};
@@ -9,6 +8,7 @@ ghost use Rattle.std.specs.Prelude.{◌≡◌, ◌∷◌, ◌++◌, [], IfOk, On
 
 use crate::lists::only;
 use grid::pos::Pos;
+use lines::items::Items;
 use lines::pair::PositionPair;
 use std::alloc::{AllocError, Global};
 use std::collections::BTreeSet;
@@ -18,17 +18,17 @@ use std::collections::BTreeSet;
 #[derive(Drop)]
 struct Cutting {
     used: BTreeSet<PositionPair>,
-    ended: Vec<Vec<Pos>>,
+    ended: Vec<Items<Pos>>,
     run: Vec<Pos>,
     here: Pos,
 }
 
 /// Puts a run behind others, unless it has fewer than two positions.
-fn push_run(runs: &mut Vec<Vec<Pos>>, run: Vec<Pos>) -> Result<(), AllocError>
-    ensures { OnOk result (lists_in runs.new.items ≡ lists_in runs.old.items ++ run_kept run.items) }
+fn push_run(runs: &mut Vec<Items<Pos>>, run: Vec<Pos>) -> Result<(), AllocError>
+    ensures { OnOk result (runs.new.items ≡ runs.old.items ++ run_kept run.items) }
 {
     if run.len() > 1 {
-        runs.push(run)?;
+        runs.push(Items::from_vec(run))?;
     }
     Ok(())
 }
@@ -48,7 +48,7 @@ impl Cutting {
 
     /// Ends the run, and begins the next one here.
     fn begin_run(&mut self, alloc: Global) -> Result<(), AllocError>
-        ensures ended { OnOk result (lists_in self.new.ended.items ≡ lists_in self.old.ended.items ++ run_kept self.old.run.items) }
+        ensures ended { OnOk result (self.new.ended.items ≡ self.old.ended.items ++ run_kept self.old.run.items) }
         ensures run { OnOk result (self.new.run.items ≡ self.old.here ∷ []) }
         ensures here { self.new.here ≡ self.old.here }
         ensures used { self.new.used ≡ self.old.used }
@@ -72,8 +72,8 @@ impl Cutting {
     }
 
     /// The runs, where the line ends here.
-    fn into_runs(self) -> Result<Vec<Vec<Pos>>, AllocError>
-        ensures { IfOk result (λ runs. lists_in runs.items ≡ runs_left self []) }
+    fn into_runs(self) -> Result<Vec<Items<Pos>>, AllocError>
+        ensures { IfOk result (λ runs. runs.items ≡ runs_left self []) }
     {
         let Cutting { ended, run, .. } = self;
         let mut runs = ended;
@@ -84,8 +84,8 @@ impl Cutting {
 
 /// The runs of a line between the segments that were used before, in order. Equal neighbours are one position,
 /// and a run of one position is none.
-pub(crate) fn runs_of(alloc: Global, mut positions: Vec<Pos>) -> Result<Vec<Vec<Pos>>, AllocError>
-    ensures { IfOk result (λ runs. lists_in runs.items ≡ runs_in (collapsed position_cmp positions.items)) }
+pub(crate) fn runs_of(alloc: Global, mut positions: Vec<Pos>) -> Result<Vec<Items<Pos>>, AllocError>
+    ensures { IfOk result (λ runs. runs.items ≡ runs_in (collapsed position_cmp positions.items)) }
 {
     positions.dedup();
     let Some((first, others)) = positions.as_slice().split_first() else {

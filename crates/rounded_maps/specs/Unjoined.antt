@@ -6,7 +6,7 @@ use Rattle.faults.specs.Path.{index, name}
 use Rattle.faults.specs.declared.fault.Fault.{Fault}
 use Rattle.faults.specs.declared.fault.FaultKind.{FaultKind}
 use Rattle.faults.specs.declared.fault.FaultKind.TheVariants.{Revisit, TooShort}
-use Rattle.fixing.specs.Forms.{PlainForm, one}
+use Rattle.fixing.specs.Forms.{RawShape, one}
 use Rattle.fixing.specs.Geometries.{geometry_left}
 use Rattle.fixing.specs.declared.rules.FixingRules.{FixingRules}
 use Rattle.grid.specs.declared.pos.Pos.{Pos}
@@ -27,7 +27,7 @@ use Rattle.rounded_maps.specs.declared.map.RoundedFeature.{RoundedFeature}
 use Rattle.rounded_maps.specs.declared.map.RoundedMap.{RoundedMap}
 
 -- by what is left where what is folded is split: something, or nothing
-abbrev pub kind_left : Option (List PlainForm) → FaultKind
+abbrev pub kind_left : Option (List RawShape) → FaultKind
 kind_left None = TooShort
 kind_left (Some left) = Revisit
 

@@ -1,17 +1,17 @@
 -- Shapes whose positions go elsewhere.
 use Rattle.std.specs.Prelude.{◌≢◌, List, map}
 use Rattle.compare.specs.declared.quality.vertex.VertexUse.{VertexUse}
-use Rattle.fixing.specs.Forms.{PlainForm}
+use Rattle.fixing.specs.Forms.{RawShape}
 use Rattle.grid.specs.declared.pos.Pos.{Pos}
 use Rattle.lines.specs.Seen.{positions_of, vertices_of}
 use Rattle.lines.specs.declared.line.Line.{Line}
 use Rattle.lines.specs.declared.ring.Ring.{Ring}
+use Rattle.shapes.specs.Forms.{form_map}
 use Rattle.shapes.specs.Shapes as shapes
 use Rattle.shapes.specs.declared.form.Form.TheVariants as of
 use Rattle.snapping.specs.NearlyShared.Uses.{shape_uses}
 use Rattle.theory.specs.LinesAndRings.{closed}
 use Rattle.theory.specs.Lists.{Has}
-use Rattle.theory.specs.Topology.{null, point, points, line, lines, polygon, polygons}
 
 -- one of the vertices of a shape goes elsewhere
 abbrev pub Moves : (Pos → Pos) → shapes.Shape → Type 0
@@ -26,11 +26,7 @@ abbrev pub moved_ring : (Pos → Pos) → Ring → List Pos
 moved_ring f r = closed (map f (vertices_of r))
 
 -- a shape whose positions are where they go, its rings with the closing repeat
-abbrev pub moved_shape : (Pos → Pos) → shapes.Shape → PlainForm
-moved_shape f of.Null = null
-moved_shape f (of.Point p) = point (f p)
-moved_shape f (of.MultiPoint ps) = points (map f ps)
-moved_shape f (of.Line l) = line (moved_line f l)
-moved_shape f (of.MultiLine ls) = lines (map (moved_line f) ls)
-moved_shape f (of.Polygon rs) = polygon (map (moved_ring f) rs)
-moved_shape f (of.MultiPolygon ps) = polygons (map (map (moved_ring f)) ps)
+abbrev pub moved_shape : (Pos → Pos) → shapes.Shape → RawShape
+moved_shape f (of.Point p) = of.Point (f p)
+moved_shape f (of.MultiPoint ps) = of.MultiPoint (map f ps)
+moved_shape f s = form_map (moved_line f) (moved_ring f) s

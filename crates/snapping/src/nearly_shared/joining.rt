@@ -1,9 +1,9 @@
 //! Shapes whose positions are moved to where their vertices are joined.
-ghost use Rattle.fixing.specs.Forms.{seen_shape};
-ghost use Rattle.fixing.specs.Seen.{lists_in, polygons_in};
+ghost use Rattle.grid.specs.declared.pos.Pos as position;
+ghost use Rattle.shapes.specs.Forms.{form_map};
 ghost use Rattle.snapping.specs.NearlyShared.Joined.{target_in};
 ghost use Rattle.snapping.specs.NearlyShared.Moved.{Moves, moved_line, moved_ring, moved_shape};
-ghost use Rattle.std.specs.Prelude.{◌≡◌, ◌↔◌, IfOk, IsTrue, map};
+ghost use Rattle.std.specs.Prelude.{◌≡◌, ◌↔◌, IfOk, IsTrue, List, map};
 
 use crate::nearly_shared::clusters::Clusters;
 use crate::nearly_shared::vertices::add_uses_of_shape;
@@ -13,6 +13,7 @@ use grid::pos::Pos;
 use lines::items::Items;
 use lines::line::Line;
 use lines::ring::Ring;
+use shapes::form_map::Become;
 use shapes::shape::Shape;
 use std::alloc::Global;
 
@@ -47,86 +48,64 @@ fn join_positions(
     Ok(moved)
 }
 
-fn join_lines(
-    alloc: Global,
-    clusters: &Clusters,
-    lines: &[Line],
-) -> Result<Vec<Vec<Pos>>, OutOfMemory>
-    ensures { IfOk result (λ v. lists_in v.items ≡ map (moved_line (target_in clusters.now)) lines.now) }
-{
-    let mut moved = Vec::with_capacity(alloc, lines.len())?;
-    for line in lines {
-        moved.push(join_positions(alloc, clusters, line.positions())?)?;
-    }
-    Ok(moved)
+/// Lines and rings, each position where it is moved to.
+#[derive(Drop)]
+struct Joining<'a> {
+    clusters: &'a Clusters,
 }
 
-/// A ring's positions, each where it is moved to. The last repeats the first.
-fn join_ring(alloc: Global, clusters: &Clusters, ring: &Ring) -> Result<Vec<Pos>, OutOfMemory>
-    ensures { IfOk result (λ v. v.items ≡ moved_ring (target_in clusters.now) ring.now) }
-{
-    let mut moved = join_positions(alloc, clusters, ring.vertices())?;
-    if let Some(first) = moved.first().copied() {
-        moved.push(first)?;
+impl<'a> Become<Line> for Joining<'a> {
+    type Made = Items<Pos>;
+
+    ghost Seen = { List position.Pos };
+
+    ghost seen = { λ list. list };
+
+    ghost becomes = { λ j line. moved_line (target_in j.clusters.now) line };
+
+    fn make(&self, alloc: Global, old: &Line) -> Result<Items<Pos>, OutOfMemory> {
+        Ok(Items::from_vec(join_positions(alloc, self.clusters, old.positions())?))
     }
-    Ok(moved)
 }
 
-fn join_rings(
-    alloc: Global,
-    clusters: &Clusters,
-    rings: &[Ring],
-) -> Result<Vec<Vec<Pos>>, OutOfMemory>
-    ensures { IfOk result (λ v. lists_in v.items ≡ map (moved_ring (target_in clusters.now)) rings.now) }
-{
-    let mut moved = Vec::with_capacity(alloc, rings.len())?;
-    for ring in rings {
-        moved.push(join_ring(alloc, clusters, ring)?)?;
+impl<'a> Become<Ring> for Joining<'a> {
+    type Made = Items<Pos>;
+
+    ghost Seen = { List position.Pos };
+
+    ghost seen = { λ list. list };
+
+    ghost becomes = { λ j ring. moved_ring (target_in j.clusters.now) ring };
+
+    /// A ring's positions, of which the last repeats the first.
+    fn make(&self, alloc: Global, old: &Ring) -> Result<Items<Pos>, OutOfMemory> {
+        let mut moved = join_positions(alloc, self.clusters, old.vertices())?;
+        if let Some(first) = moved.first().copied() {
+            moved.push(first)?;
+        }
+        Ok(Items::from_vec(moved))
     }
-    Ok(moved)
 }
 
-fn join_polygons(
-    alloc: Global,
-    clusters: &Clusters,
-    polygons: &[Items<Ring>],
-) -> Result<Vec<Vec<Vec<Pos>>>, OutOfMemory>
-    ensures { IfOk result (λ v. polygons_in v.items ≡ map (map (moved_ring (target_in clusters.now))) polygons.now) }
+/// A shape with the points that it has, and the positions of its lines and rings where they are moved to.
+fn join_parts(alloc: Global, shape: &Shape, clusters: &Clusters) -> Result<RawShape, OutOfMemory>
+    ensures { IfOk result (λ raw. raw ≡ form_map (moved_line (target_in clusters.now)) (moved_ring (target_in clusters.now)) shape.now) }
 {
-    let mut moved = Vec::with_capacity(alloc, polygons.len())?;
-    for rings in polygons {
-        moved.push(join_rings(alloc, clusters, rings.as_slice())?)?;
-    }
-    Ok(moved)
+    let joining = Joining { clusters };
+    let made = shape.try_map(alloc, &joining, &joining)?;
+    Ok(made)
 }
 
 /// A shape with each position where it is moved to, to be fixed again: lines and rings may be folded or too short.
 pub fn join_shape(alloc: Global, shape: Shape, clusters: &Clusters) -> Result<RawShape, OutOfMemory>
-    ensures { IfOk result (λ raw. seen_shape raw ≡ moved_shape (target_in clusters.now) shape) }
+    ensures { IfOk result (λ raw. raw ≡ moved_shape (target_in clusters.now) shape) }
 {
     match &shape {
-        Shape::Null => Ok(RawShape::Null),
         Shape::Point(position) => Ok(RawShape::Point(clusters.target(*position))),
-        Shape::MultiPoint(positions) => Ok(RawShape::MultiPoint(join_positions(
-            alloc,
-            clusters,
-            positions.as_slice(),
-        )?)),
-        Shape::Line(line) => Ok(RawShape::Line(join_positions(alloc, clusters, line.positions())?)),
-        Shape::MultiLine(lines) => Ok(RawShape::MultiLine(join_lines(
-            alloc,
-            clusters,
-            lines.as_slice(),
-        )?)),
-        Shape::Polygon(rings) => Ok(RawShape::Polygon(join_rings(
-            alloc,
-            clusters,
-            rings.as_slice(),
-        )?)),
-        Shape::MultiPolygon(polygons) => Ok(RawShape::MultiPolygon(join_polygons(
-            alloc,
-            clusters,
-            polygons.as_slice(),
-        )?)),
+        Shape::MultiPoint(positions) => {
+            let moved = join_positions(alloc, clusters, positions.as_slice())?;
+            Ok(RawShape::MultiPoint(Items::from_vec(moved)))
+        }
+        _ => join_parts(alloc, &shape, clusters),
     }
 }

@@ -1,5 +1,5 @@
 //! The vertices of features, each with the number of its feature.
-ghost use Rattle.lines.specs.Seen.{positions_of};
+ghost use Rattle.shapes.specs.Forms.{lines_in, rings_in};
 ghost use Rattle.snapping.specs.NearlyShared.Uses.{shapes_uses, line_uses, ring_uses, shape_uses};
 ghost use Rattle.compare.specs.Quality.Uses.{places_uses, use_cmp};
 ghost use Rattle.std.specs.List.Sorted.{IsPermutation};
@@ -9,10 +9,6 @@ ghost use Rattle.theory.specs.Lists.{gathered};
 use crate::nearly_shared::index::VertexIndex;
 use compare::quality::uses::add_places;
 use compare::quality::vertex::VertexUse;
-use grid::pos::Pos;
-use lines::items::Items;
-use lines::line::Line;
-use lines::ring::Ring;
 use shapes::shape::Shape;
 use std::alloc::{AllocError, Global};
 
@@ -24,33 +20,22 @@ pub struct Vertices {
     features: usize,
 }
 
-fn add_lines(uses: &mut Vec<VertexUse>, feature: usize, lines: &[Line]) -> Result<(), AllocError>
-    ensures { OnOk result (uses.new.items ≡ uses.old.items ++ gathered (line_uses feature) lines.now) }
+/// Notes that a feature has the vertices of its lines.
+fn add_lines(uses: &mut Vec<VertexUse>, feature: usize, shape: &Shape) -> Result<(), AllocError>
+    ensures { OnOk result (uses.new.items ≡ uses.old.items ++ gathered (line_uses feature) (lines_in shape.now)) }
 {
-    for line in lines {
+    for line in shape.lines() {
         add_places(uses, feature, line.positions())?;
     }
     Ok(())
 }
 
-fn add_rings(uses: &mut Vec<VertexUse>, feature: usize, rings: &[Ring]) -> Result<(), AllocError>
-    ensures { OnOk result (uses.new.items ≡ uses.old.items ++ gathered (ring_uses feature) rings.now) }
+/// Notes that a feature has the vertices of its rings.
+fn add_rings(uses: &mut Vec<VertexUse>, feature: usize, shape: &Shape) -> Result<(), AllocError>
+    ensures { OnOk result (uses.new.items ≡ uses.old.items ++ gathered (ring_uses feature) (rings_in shape.now)) }
 {
-    for ring in rings {
+    for ring in shape.rings() {
         add_places(uses, feature, ring.vertices())?;
-    }
-    Ok(())
-}
-
-fn add_polygons(
-    uses: &mut Vec<VertexUse>,
-    feature: usize,
-    polygons: &[Items<Ring>],
-) -> Result<(), AllocError>
-    ensures { OnOk result (uses.new.items ≡ uses.old.items ++ gathered (gathered (ring_uses feature)) polygons.now) }
-{
-    for rings in polygons {
-        add_rings(uses, feature, rings.as_slice())?;
     }
     Ok(())
 }
@@ -63,18 +48,9 @@ pub(crate) fn add_uses_of_shape(
 ) -> Result<(), AllocError>
     ensures { OnOk result (uses.new.items ≡ uses.old.items ++ shape_uses feature shape.now) }
 {
-    match shape {
-        Shape::Null => Ok(()),
-        Shape::Point(place) => Ok(uses.push(VertexUse {
-            at: *place,
-            feature,
-        })?),
-        Shape::MultiPoint(places) => add_places(uses, feature, places.as_slice()),
-        Shape::Line(line) => add_places(uses, feature, line.positions()),
-        Shape::MultiLine(lines) => add_lines(uses, feature, lines.as_slice()),
-        Shape::Polygon(rings) => add_rings(uses, feature, rings.as_slice()),
-        Shape::MultiPolygon(polygons) => add_polygons(uses, feature, polygons.as_slice()),
-    }
+    add_places(uses, feature, shape.points())?;
+    add_lines(uses, feature, shape)?;
+    add_rings(uses, feature, shape)
 }
 
 impl Vertices {

@@ -2,7 +2,6 @@ use Rattle.std.proofs.Common.{◌+◌, ◌∙◌, sym, ap, drop}
 use Rattle.std.proofs.lemmas.List.{drop_all}
 use Rattle.theory.proofs.Lists.{append_nil}
 use Rattle.lines.proofs.Dropping.{drop_item}
-use Rattle.fixing.specs.Seen.{lists_in}
 use Rattle.fixing.specs.Walks.{loops_left}
 use Rattle.fixing.proofs.loops.loops_of.Goals as goal
 
@@ -22,6 +21,6 @@ loop-position-preserved c = record {
 
 pub returns : goal.returns
 returns c =
-    sym (append_nil (lists_in c.loop-position.walk.loops.items))
+    sym (append_nil c.loop-position.walk.loops.items)
     ∙ ap (loops_left c.loop-position.walk) (sym (drop_all c.loop-position.position-index c.args.closed.now c.loop-position-test.false))
     ∙ c.loop-position.invariant.left

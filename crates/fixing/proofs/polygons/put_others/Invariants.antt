@@ -1,8 +1,8 @@
 use Rattle.std.proofs.Common.{◌≡◌}
 use Rattle.fixing.specs.Polygons.{put_others}
-use Rattle.fixing.specs.Seen.{lists_in, polygons_in}
+use Rattle.fixing.specs.Seen.{polygons_in}
 use Rattle.fixing.proofs.polygons.put_others.Given as goal
 
 abbrev pub invariant-loop-ring : goal.invariant-loop-ring
 invariant-loop-ring l =
-    put_others (lists_in l.ring-iterator.rest.items) (polygons_in l.polygons.items) ≡ put_others (lists_in l.fn.rings.items) (polygons_in l.fn.polygons.items)
+    put_others l.ring-iterator.rest.items (polygons_in l.polygons.items) ≡ put_others l.fn.rings.items (polygons_in l.fn.polygons.items)

@@ -8,4 +8,4 @@ returns-in_ok-push c =
     (c.in_ok-push.ensures.items ∙ ap (λ v. v.items ++ (c.args.ring ∷ [])) c.index_mut.ensures.value)
 
 pub returns-else-home-len : goal.returns-else-home-len
-returns-else-home-len c = put_past c.args.polygons.now.items c.args.home c.args.ring.items (omega (arith, c.args.polygons.now.ok.0))
+returns-else-home-len c = put_past c.args.polygons.now.items c.args.home c.args.ring (omega (arith, c.args.polygons.now.ok.0))

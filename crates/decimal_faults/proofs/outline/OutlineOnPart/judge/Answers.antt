@@ -27,4 +27,4 @@ returns-in-Ok c =
     let rest : is_full First (pairs_of c.in_ok-found.found.items) ≡ false = cc in
     let none = sym c.in_ok-found.ensures ∙ no_pairs (pairs_of c.in_ok-found.found.items) rest in
     subst (λ ps. IfOk c.judge_outline.result (λ fs. pairs_of fs.items ≡ ps))
-    (sym (outline_is grid c.size-size.ensures.limits c.args.fixing.now c.args.self.now.outline j c.in-Ok.made.items _ _ none c.in-Ok.ensures.made)) c.judge_outline.ensures
+    (sym (outline_is grid c.size-size.ensures.limits c.args.fixing.now c.args.self.now.outline j c.in-Ok.made _ _ none c.in-Ok.ensures.made)) c.judge_outline.ensures

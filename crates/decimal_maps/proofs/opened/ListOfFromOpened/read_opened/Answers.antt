@@ -1,9 +1,8 @@
-use Rattle.std.proofs.Common.{◌<◌, ◌-◌, ◌∷◌, subst, arith}
-use Rattle.std.proofs.lemmas.Result.{IfOk-weaker}
+use Rattle.std.proofs.Common.{◌<◌, ◌-◌, ◌∷◌, sym, subst, arith}
 use Rattle.json.specs.Token.{number, begin_array}
 use Rattle.decimal_maps.specs.Arrays.{ArrayMeans}
-use Rattle.decimal_maps.specs.Reads.{ReadsRest}
-use Rattle.decimal_maps.proofs.Looping.{opened_reads, reads_of}
+use Rattle.decimal_maps.specs.Reads.{Reads, ReadsRest}
+use Rattle.decimal_maps.proofs.Looping.{opened_reads}
 use Rattle.decimal_maps.proofs.opened.ListOfFromOpened.read_opened.Goals as goal
 
 pub returns : goal.returns
@@ -18,7 +17,6 @@ returns g c =
     let before = c.args.count.now in
     let between = c.read_opened.new.count in
     let after = c.read_rest.new.count in
-    IfOk-weaker c.read_rest.result _ _
-    (λ xs rest. reads_of (ArrayMeans R) (λ v. v.items) c.args.depth (begin_array ∷ opened) new before after xs
-    (opened_reads R c.args.depth opened mid new x xs.items before between after some c.in_ok-first.ensures
-    (subst (λ found. ReadsRest R (c.args.depth - 1) mid new found xs.items between after) c.in_ok-found.ensures rest))) c.read_rest.ensures
+    let rest = subst (λ found. ReadsRest R (c.args.depth - 1) mid new found c.in_ok-all.all.items between after) c.in_ok-found.ensures c.in_ok-all.ensures in
+    subst (λ xs. Reads (ArrayMeans R) c.args.depth (begin_array ∷ opened) new before after xs) (sym c.from_vec.ensures)
+    (opened_reads R c.args.depth opened mid new x c.in_ok-all.all.items before between after some c.in_ok-first.ensures rest)

@@ -1,7 +1,5 @@
-use Rattle.std.proofs.Common.{ap}
-use Rattle.fixing.specs.Seen.{lists_in}
 use Rattle.fixing.proofs.LoopSteps.{begun}
 use Rattle.fixing.proofs.loops.LoopWalk.new.Goals as goal
 
 pub returns-clause-left : goal.returns-clause-left
-returns-clause-left c = begun (lists_in c.new.result.items) c.new-2.result.items (ap lists_in c.new.ensures.items) c.new-2.ensures.items
+returns-clause-left c = begun c.new.result.items c.new-2.result.items c.new.ensures.items c.new-2.ensures.items

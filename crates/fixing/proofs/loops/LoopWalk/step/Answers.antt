@@ -2,7 +2,6 @@ use Rattle.std.proofs.Common.{◌≡◌, ◌+◌, ◌∙◌, sym, ap, Some, arit
 use Rattle.std.specs.BTreeMap.{get}
 use Rattle.lines.specs.Turned.{position_cmp}
 use Rattle.fixing.specs.Loops.{place_on}
-use Rattle.fixing.specs.Seen.{lists_in}
 use Rattle.fixing.proofs.LoopSteps.{cut_told, notes_more, notes_told, placed, step_on}
 use Rattle.fixing.proofs.loops.LoopWalk.step.Goals as goal
 
@@ -19,7 +18,7 @@ returns-in-Some-clause-noted c =
 
 pub returns-in-Some-clause-left : goal.returns-in-Some-clause-left
 returns-in-Some-clause-left c =
-    cut_told c.cut_loop.result (lists_in c.args.self.now.loops.items) (lists_in c.cut_loop.new.self.loops.items) c.args.self.now.path.items c.cut_loop.new.self.path.items
+    cut_told c.cut_loop.result c.args.self.now.loops.items c.cut_loop.new.self.loops.items c.args.self.now.path.items c.cut_loop.new.self.path.items
     c.args.position c.in-Some.place c.in-Some.ensures c.cut_loop.ensures.loops c.cut_loop.ensures.path
 
 pub returns-clause-noted : goal.returns-clause-noted
@@ -29,5 +28,5 @@ returns-clause-noted c =
 
 pub returns-clause-left : goal.returns-clause-left
 returns-clause-left c = λ l.
-    step_on (lists_in c.args.self.now.loops.items) c.args.self.now.path.items c.push.new.self.items l c.args.position (sym c.in_default.is ∙ c.place.ensures)
+    step_on c.args.self.now.loops.items c.args.self.now.path.items c.push.new.self.items l c.args.position (sym c.in_default.is ∙ c.place.ensures)
     c.in_ok-push.ensures.items
