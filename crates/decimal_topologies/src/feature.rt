@@ -159,10 +159,8 @@ pub fn make_layer(
     ensures refused { result ≡ Err Stop.Unread → (fixing : Rules) → layer_faults (parts_of of.now.topology.now) of.now.rules.now fixing (value_view value.now) ≢ [] }
 {
     if has_features(value) {
-        return match make_member(alloc, &ListOf { of: *of }, value, "geometries", &mut ()) {
-            Ok(features) => Ok(features.into_vec()),
-            Err(stop) => Err(stop),
-        };
+        let features = make_member(alloc, &ListOf { of: *of }, value, "geometries", &mut ())?;
+        return Ok(features.into_vec());
     }
     match of.make(alloc, value, &mut ()) {
         Ok(feature) => only(alloc, feature),
