@@ -35,7 +35,7 @@ WALKS = [
     ("renumbering/src/new_lists.rt", "use topo::building::build as made;"),
     ("renumbering/src/new_lists.rt", "use chains::{ArcRef, cut_line, cut_ring};"),
     ("split_arcs/src/split.rt", "    let cuts = VisitIndex::of(alloc, &map)?;"),
-    ("heal_arcs/src/heal.rt", "    cut_ring(alloc, &index, ring)"),
+    ("heal_arcs/src/healing.rt", "    cut_ring(alloc, &index, ring)"),
     ("topo/src/stitching.rt", "    topology.expand(alloc)"),
     ("topo/src/order.rt", "    from_map(alloc, grid, map)"),
 ]
