@@ -356,17 +356,7 @@ fn add_each(
     Ok(())
 }
 
-/// The shapes, each once.
-fn distinct(shapes: Vec<Shape>) -> Result<Vec<Shape>, OutOfMemory>
-    ensures { IfOk result (λ some. HaveSame some.items shapes.items) }
-{
-    let mut some = shapes;
-    some.sort()?;
-    some.dedup();
-    Ok(some)
-}
-
-/// Adds the features that a fixed feature stands for: one for each of its shapes, of which those that are equal are one.
+/// Adds the features that a fixed feature stands for: one for each of its shapes.
 fn add_feature(
     alloc: Global,
     feature: FixedFeature,
@@ -374,9 +364,7 @@ fn add_feature(
 ) -> Result<(), OutOfMemory>
     ensures { OnOk result (HaveSame (map plain features.new.items) (map plain features.old.items ++ map (plain_of feature.id feature.props) feature.shapes.items)) }
 {
-    let FixedFeature { id, props, shapes } = feature;
-    let shapes = distinct(shapes)?;
-    add_each(alloc, FixedFeature { id, props, shapes }, features)?;
+    add_each(alloc, feature, features)?;
     Ok(())
 }
 
