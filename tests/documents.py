@@ -18,9 +18,15 @@ at most PARAGRAPH characters, a sentence at most SENTENCE words and AVERAGE on a
 document at most PAGE words, and there is no word of AVOID. README.md has at most README_BYTES bytes, and names the kit as
 `rt version` does, where that is installed; its table and docs/COMMANDS.md have each command that the program's help lists.
 All documents but docs/DEFINITIONS.md, CHANGELOG.md and the forms in .github have at most WORDS words together: those of
-prose and tables, and not those of code. The folders at the top have a README.md. `///` and `//!` comments of product crates
-have no word of AVOID either. The version is the same in all files that have it. Examples run with nothing set but PATH, HOME
-and a locale. Ends with a line of counts, and with status 1 where anything is wrong.
+prose and tables, and not those of code. The folders at the top have a README.md.
+
+So has each crate, of at most README_LINES lines. These pages are PLAIN too, and their words are not among the WORDS. A function that
+one links is in the file of the link, and a name or a path in backticks is one of the crate, of a file that the page links, or of
+crates.txt. At least one function is of another folder, as a caller: its contract or code has a function or definition of the crate that
+the page links; or it is what a linked function of the crate calls, as those of tests do.
+
+`///` and `//!` comments of product crates have no word of AVOID either. The version is the same in all files that have it. Examples
+run with nothing set but PATH, HOME and a locale. Ends with a line of counts, and with status 1 where anything is wrong.
 """
 
 import glob
@@ -45,7 +51,10 @@ TOGRID = os.path.abspath(os.environ.get("TOGRID", f"{TOP}/crates/togrid/out/togr
 FOLDERS = ["bench", "c", "completions", "crates", "dist", "docs", "examples", "python", "rust", "tests"]
 DOCUMENTS = ["README.md", *(f"docs/{it}.md" for it in ("COMMANDS", "SESSIONS", "HEADLINE", "FAULTS", "LIBRARY", "GLOSSARY", "EDITORS", "TOGRID")),
              "CONTRIBUTING.md", "SECURITY.md", "CHANGELOG.md"]
-PLAIN = [*DOCUMENTS, *(f"docs/{it}.md" for it in ("ARCHITECTURE", "DECISIONS", "PROOFS", "TESTS", "SPEED", "README")),
+# The pages of crates, whether they are there or not. They have a limit of lines, so their words aren't counted with the others'.
+CRATES = sorted(f"{os.path.dirname(os.path.relpath(it, TOP))}/README.md" for it in glob.glob(f"{TOP}/crates/*/src"))
+README_LINES = 20
+PLAIN = [*DOCUMENTS, *(f"docs/{it}.md" for it in ("ARCHITECTURE", "DECISIONS", "PROOFS", "TESTS", "SPEED", "README")), *CRATES,
          *(f"{it}/README.md" for it in FOLDERS if it != "docs"), *(f"examples/{it}/README.md" for it in ("own-map", "many-hands", "map", "python"))]
 PROOFS = "docs/PROOFS.md"
 OPTIONAL = ["jq", "ogr2ogr"]
@@ -265,7 +274,7 @@ def badly_written(document, text):
         yield f"{sum(counts) / len(counts):.1f} words in a sentence on average"
     if len(words_of(text)) > PAGE:
         yield f"{len(words_of(text))} words"
-    for line in re.sub(r"`[^`\n]*`", "", "\n".join(prose(text))).split("\n"):
+    for line in re.sub(r"`[^`\n]*`|\]\([^)\n]*\)", "", "\n".join(prose(text))).split("\n"):
         for words, better in AVOID.items():
             for found in re.findall(rf"\b(?:{words})\b", line, re.IGNORECASE):
                 yield f"'{found}' (write: {better}) in: {line[:80]}"
@@ -274,9 +283,74 @@ def badly_written(document, text):
         yield f"{size} bytes"
 
 
+def bodies(path, name):
+    """The texts of the functions of a name in a source file, from the signature to the end, without comments. Of other files than .rt and
+    .rs it is the whole text, where a line begins with the name, or with a few words and the name, as definitions do."""
+    with open(path, encoding="utf-8") as file:
+        text = re.sub(r"//.*|^ *--.*", "", file.read(), flags=re.MULTILINE)
+    *owner, word = name.split("::")
+    if not path.endswith((".rt", ".rs")):
+        return [text] if re.search(rf"^(?:\w+ )*{word}\b", text, re.MULTILINE) else []
+    if owner and not re.search(rf"^(?:pub )?(?:impl|trait)\b.*\b{owner[-1]}\b", text, re.MULTILINE):
+        return []
+    function = rf"^( *)(?:pub(?:\(\w+\))? )?(?:extern \"C\" )?(?:const |final |unsafe )*fn {word}\b.*?^\1(?:\}}|\{{\}})$"
+    return [it[0] for it in re.finditer(function, text, re.MULTILINE | re.DOTALL)]
+
+
+def is_named(name, texts):
+    """Whether one of the texts has the name of a function; that of a method is behind its type or a point."""
+    *owner, word = name.split("::")
+    found = rf"\b{owner[-1]}::{word}\b|\.{word}\b" if owner else rf"\b{word}\b"
+    return any(re.search(found, it) for it in texts)
+
+
+def unlinked(folder, text):
+    """Gives what is wrong with the functions that the page of a crate links: that one isn't in its file; that one of another folder
+    neither names one of the crate that is linked too, nor is named by it; that there is none of another folder."""
+    own, others = {}, {}
+    for name, target in re.findall(r"\[`([\w:]+)`\]\(([^)\s#]+)\)", text):
+        path = os.path.normpath(f"{folder}/{target}")
+        found = bodies(path, name) if os.path.isfile(path) else []
+        if not found:
+            yield f"{name} isn't in {target}"
+        (own if path.startswith(f"{folder}/") else others)[name] = found
+    for name, texts in others.items():
+        if texts and not any(is_named(it, texts) or is_named(name, mine) for it, mine in own.items()):
+            yield f"{name} calls none of {', '.join(own)}, and none of these calls it"
+    if not others:
+        yield "it links no function of another folder, as a caller"
+
+
+def lost_names(folder, text):
+    """Gives the names in backticks on the page of a crate that aren't in its sources, in a file that it links or in crates.txt; and the
+    paths that aren't there."""
+    plain = "\n".join(prose(text))
+    paths = [f"{TOP}/crates.txt", *(f"{folder}/{it}" for it in re.findall(r"\]\(([^)\s#:]+)\)", plain))]
+    paths += [it for kind in ("src/**/*.rt", "specs/**/*.antt") for it in glob.glob(f"{folder}/{kind}", recursive=True)]
+    words = set()
+    for path in filter(os.path.isfile, paths):
+        with open(path, encoding="utf-8") as file:
+            words |= {*re.findall(r"\w+", file.read())}
+    for name in re.findall(r"`([\w:./*-]+)`", plain):
+        if re.fullmatch(r"args|stdin|stdout|data|(?:data|src|specs|proofs|must-fail)/.*", name):
+            if not glob.glob(f"{folder}/{name}"):
+                yield f"{name} is not there"
+        elif re.fullmatch(r"\w+(?:::\w+)*", name) and not words.issuperset(name.split("::")):
+            yield f"{name} is in no source of the crate"
+
+
+def of_a_crate(document, text):
+    """Gives what is wrong with the page of a crate beside its links and how it is written."""
+    folder = f"{TOP}/{os.path.dirname(document)}"
+    if len(text.splitlines()) > README_LINES:
+        yield f"{len(text.splitlines())} lines"
+    yield from unlinked(folder, text)
+    yield from lost_names(folder, text)
+
+
 def all_documents():
     """Every document of the repository, by its path."""
-    places = ["*.md", *(f"{it}/*.md" for it in FOLDERS), "examples/*/*.md", ".github/*.md", ".github/*/*.md"]
+    places = ["*.md", *(f"{it}/*.md" for it in FOLDERS), "examples/*/*.md", ".github/*.md", ".github/*/*.md", "crates/*/README.md"]
     return sorted(os.path.relpath(it, TOP) for place in places for it in glob.glob(f"{TOP}/{place}"))
 
 
@@ -287,11 +361,12 @@ def read_through():
     for document in documents:
         with open(f"{TOP}/{document}", encoding="utf-8") as file:
             text = file.read()
-        if document not in (definitions.PAGE, "CHANGELOG.md") and not document.startswith(".github"):
+        if document not in (definitions.PAGE, "CHANGELOG.md", *CRATES) and not document.startswith(".github"):
             words += len(words_of(text))
         told = [*(f"{it} leads nowhere" for it in dead_links(document, text)),
                 *(f"{it} is not there" for it in dead_mentions(document, text)),
-                *(badly_written(document, text) if document in PLAIN else [])]
+                *(badly_written(document, text) if document in PLAIN else []),
+                *(of_a_crate(document, text) if document in CRATES else [])]
         wrong += len(told)
         for it in told:
             print(f"{document}: {it}")
@@ -361,7 +436,8 @@ def main(documents):
     for it in lacking:
         print(it)
     wrong += lost + missed + faulty + len(lacking)
-    print(f"{count} examples, {names} definitions, {calls} calls with a condition, {pages} documents of {words} words, {wrong} wrong")
+    print(f"{count} examples, {names} definitions, {calls} calls with a condition, {pages} documents, "
+          f"{len(CRATES)} of them of crates and {words} words in the others, {wrong} wrong")
     return 1 if wrong else 0
 
 
