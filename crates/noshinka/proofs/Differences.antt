@@ -5,7 +5,7 @@ use Rattle.shapes.specs.Maps.{Layers}
 use Rattle.topo.specs.OfMap.{IsOf}
 use Rattle.topo.specs.Parts.{TopologyParts}
 use Rattle.topo_io.specs.Means.{Means, MeansTopology}
-use Rattle.noshinka.specs.Choices.{scope_of}
+use Rattle.noshinka.specs.Options.{scope_of}
 use Rattle.noshinka.specs.Differing.{IsComparisonText, IsDiffAnswer, IsDiffRefusal, IsMeaningRefusal, IsTopologiesRefusal}
 use Rattle.noshinka.specs.Why.{IsChoiceRefusal, IsScopeRefusal, IsTextRefusal}
 use Rattle.noshinka.specs.declared.differing.Asked.{Asked}

@@ -3,7 +3,7 @@ use Rattle.std.proofs.Common.{◌≡◌, ◌≤◌, ℕ, Bool, true, false, List
 use Rattle.std.specs.Prelude.{Option, Some, None, IsUtf8}
 use Rattle.topo.specs.Parts.{TopologyParts}
 use Rattle.topo_io.specs.Means.{MeansTopology}
-use Rattle.noshinka.specs.Choices.{scope_of}
+use Rattle.noshinka.specs.Options.{scope_of}
 use Rattle.noshinka.specs.Why.{IfByIds, IsBadName, IsChoiceRefusal, IsIdsRefusal, IsLayerRefusal, IsQuestionRefusal, IsScopeRefusal, IsTextRefusal, LacksId, TextLacksId}
 use Rattle.noshinka.specs.declared.refusal.CallRefusal.{CallRefusal}
 use Rattle.noshinka.specs.declared.refusal.CallRefusal.TheVariants.{BadGrid, BadName, BadChoice, NoId, Text, OtherGrid, NoText, BadPlan, NoLayer, OutOfMemory}

@@ -8,7 +8,7 @@ use Rattle.topo.specs.OfMap.{IsOf}
 use Rattle.topo.specs.Parts.{TopologyParts}
 use Rattle.topo_io.specs.Means.{Means, MeansTopology}
 use Rattle.topo_io.specs.Roots.{grid_of_text}
-use Rattle.noshinka.specs.Choices.{scope_of}
+use Rattle.noshinka.specs.Options.{scope_of}
 use Rattle.noshinka.specs.Why.{IsChoiceRefusal, IsScopeRefusal, IsTextRefusal}
 use Rattle.noshinka.specs.declared.differing.Asked.{Asked}
 use Rattle.noshinka.specs.declared.refusal.CallRefusal.{CallRefusal}

@@ -1,6 +1,6 @@
-pub mod Lent
+pub mod Borrowed
 pub mod Ends
-pub mod Choices
+pub mod Options
 pub mod Why
 pub mod Answers
 pub mod Snapped

@@ -20,7 +20,7 @@ use Rattle.topo.specs.Parts.{IsOfLayerNamed, TopologyParts}
 use Rattle.topo.specs.declared.geom.Geom.{Geom}
 use Rattle.topo_io.specs.Means.{Means, MeansTopology}
 use Rattle.topo_io.specs.Roots.{faults_of_text, grid_of_text}
-use Rattle.noshinka.specs.Choices.{lacks_id, scope_of}
+use Rattle.noshinka.specs.Options.{lacks_id, scope_of}
 use Rattle.noshinka.specs.declared.refusal.CallRefusal.{CallRefusal}
 use Rattle.noshinka.specs.declared.refusal.CallRefusal.TheVariants.{BadGrid, BadName, BadChoice, NoId, Text, OtherGrid, NoText, BadPlan, NoLayer, OutOfMemory}
 

@@ -1,11 +1,11 @@
 //! What differs between two borrowed topologies.
 ghost use Rattle.noshinka.specs.Differing.{IsComparisonText, IsDiffAnswer, IsDiffRefusal, IsTopologiesRefusal};
-ghost use Rattle.noshinka.specs.Choices.{scope_of};
+ghost use Rattle.noshinka.specs.Options.{scope_of};
 ghost use Rattle.std.specs.Option.{option_copied};
 ghost use Rattle.std.specs.Prelude.{◌≤◌, IfErr, IfOk, nat_eq};
 
-use crate::choices::{flag, scope_named};
 use crate::making::on_one_grid;
+use crate::options::{flag, scope_named};
 use crate::refusal::CallRefusal;
 use crate::topologies::topology_of;
 use outputs::difference_text::{DifferenceFault, DifferenceOptions, write_difference};

@@ -1,5 +1,5 @@
 //! All faults of a borrowed text.
-ghost use Rattle.noshinka.specs.Lent.{grid_of};
+ghost use Rattle.noshinka.specs.Borrowed.{grid_of};
 ghost use Rattle.noshinka.specs.Listing.{IsFaultText, IsFormatRefusal, IsGridRefusal, IsListRefusal, faults_as, format_of};
 ghost use Rattle.reading.specs.FaultLists.Found.{pairs_of};
 ghost use Rattle.geojson_io.specs.Features.{faults_of_text as geojson_faults};
@@ -8,8 +8,8 @@ ghost use Rattle.outputs.specs.declared.fault_reports.features.Format.TheVariant
 ghost use Rattle.std.specs.Prelude.{◌≡◌, ◌≤◌, IfErr, IfOk, nat_eq};
 ghost use Rattle.topo_io.specs.Roots.{faults_of_text};
 
-use crate::choices::flag;
-use crate::lent::{GridNumbers, grid_within};
+use crate::borrowed::{GridNumbers, grid_within};
+use crate::options::flag;
 use crate::refusal::CallRefusal;
 use faults::{Fault, OutOfMemory};
 use outputs::fault_reports::{FaultReport, Format, ReportArray, reports};

@@ -5,21 +5,21 @@
 ghost use Rattle.outputs.specs.BuiltText.Maps.{IsTextOfTexts};
 ghost use Rattle.merging.specs.Merge.{lent_texts, IsMergeOf};
 ghost use Rattle.noshinka.specs.Answers.{IsCanonical, IsFeatureText, IsInfoAnswer, IsMeshText, IsNeighborsAnswer, IsNotCanonical, IsRemoval};
-ghost use Rattle.noshinka.specs.Choices.{edges_of, scope_of};
+ghost use Rattle.noshinka.specs.Options.{edges_of, scope_of};
 ghost use Rattle.noshinka.specs.Differing.{IsDiffAnswer, IsDiffRefusal};
 ghost use Rattle.noshinka.specs.Ends.{EndsWith, IsVerdict};
-ghost use Rattle.noshinka.specs.Lent.{grid_of, lent_sources};
+ghost use Rattle.noshinka.specs.Borrowed.{grid_of, borrowed_sources};
 ghost use Rattle.noshinka.specs.Listing.{IsFaultText, IsListRefusal, faults_as, format_of};
 ghost use Rattle.noshinka.specs.Snapped.{IsSnapped, IsSnapRefusal};
 ghost use Rattle.noshinka.specs.Why.{IsBuildRefusal, IsMergeRefusal, IsQuestionRefusal, IsRemoveRefusal, IsTextRefusal};
 ghost use Rattle.std.specs.List.{range_with_len};
 ghost use Rattle.std.specs.Prelude.{◌≡◌, ◌≤◌, ◌⊎◌, None, Some, false, length, nat_eq};
 
-mod choices;
+mod borrowed;
 mod differing;
 mod fault_texts;
-mod lent;
 mod making;
+mod options;
 mod outcome;
 mod questions;
 mod refusal;
@@ -27,9 +27,9 @@ mod room;
 mod rounding;
 mod topologies;
 
+pub use borrowed::{GridNumbers, Source};
 use differing::{Asked, diff};
 use fault_texts::faults;
-pub use lent::{GridNumbers, Source};
 use making::{build, merge, remove};
 pub use outcome::Outcome;
 use questions::{feature, info, mesh, neighbors};
@@ -55,7 +55,7 @@ pub extern "C" fn noshinka_build(
     sources: &[Source<'_>],
     room: &mut [u8],
 ) -> Outcome
-    ensures { EndsWith (IsTextOfTexts (grid_of grid.now) (lent_sources sources.now)) (IsBuildRefusal (grid_of grid.now) (lent_sources sources.now)) result room.old room.new }
+    ensures { EndsWith (IsTextOfTexts (grid_of grid.now) (borrowed_sources sources.now)) (IsBuildRefusal (grid_of grid.now) (borrowed_sources sources.now)) result room.old room.new }
 {
     answer(alloc, build(alloc, grid, sources), room)
 }

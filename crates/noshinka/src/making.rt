@@ -2,12 +2,12 @@
 ghost use Rattle.outputs.specs.BuiltText.Maps.{IsTextOfTexts};
 ghost use Rattle.merging.specs.Merge.{lent_texts, IsMergeOf};
 ghost use Rattle.noshinka.specs.Answers.{IsRemoval, IsTextWithout};
-ghost use Rattle.noshinka.specs.Lent.{grid_of, lent_sources};
+ghost use Rattle.noshinka.specs.Borrowed.{grid_of, borrowed_sources};
 ghost use Rattle.noshinka.specs.Why.{IsBuildRefusal, IsMergeRefusal, IsOtherGrid, IsRemoveRefusal};
 ghost use Rattle.std.specs.List.{range_with_len};
 ghost use Rattle.std.specs.Prelude.{◌≡◌, ◌↔◌, IfErr, IfOk, length, true};
 
-use crate::lent::{GridNumbers, Source, borrow_sources, grid_within};
+use crate::borrowed::{GridNumbers, Source, borrow_sources, grid_within};
 use crate::refusal::CallRefusal;
 use crate::topologies::topology_of;
 use outputs::built_text::build_borrowed;
@@ -22,8 +22,8 @@ pub(crate) fn build(
     grid: &GridNumbers,
     sources: &[Source<'_>],
 ) -> Result<Vec<u8>, CallRefusal>
-    ensures built { IfOk result (λ t. IsTextOfTexts (grid_of grid.now) (lent_sources sources.now) t.items) }
-    ensures refused { IfErr result (IsBuildRefusal (grid_of grid.now) (lent_sources sources.now)) }
+    ensures built { IfOk result (λ t. IsTextOfTexts (grid_of grid.now) (borrowed_sources sources.now) t.items) }
+    ensures refused { IfErr result (IsBuildRefusal (grid_of grid.now) (borrowed_sources sources.now)) }
 {
     let Some(grid) = grid_within(grid) else {
         return Err(CallRefusal::BadGrid);

@@ -1,6 +1,6 @@
 //! Answers to questions about a borrowed topology.
 ghost use Rattle.noshinka.specs.Answers.{IsBordersText, IsCollectionText, IsFeatureText, IsInfoAnswer, IsListsText, IsMeshText, IsNeighborsAnswer};
-ghost use Rattle.noshinka.specs.Choices.{edges_of, scope_of};
+ghost use Rattle.noshinka.specs.Options.{edges_of, scope_of};
 ghost use Rattle.noshinka.specs.Why.{IsIdsRefusal, IsLayerRefusal, IsQuestionRefusal};
 ghost use Rattle.query.specs.AnswerTexts.{neighbor_ids_text, neighbors_text};
 ghost use Rattle.outputs.specs.InfoText.{info_text};
@@ -9,8 +9,8 @@ ghost use Rattle.std.specs.Option.{option_map};
 ghost use Rattle.std.specs.Prelude.{◌≡◌, ◌≤◌, ◌⊎◌, IfErr, IfOk, OnErr, OnOk, Some, None, false, map, nat_eq, true};
 ghost use Rattle.topo.specs.Parts.{IsOfLayerNamed};
 
-use crate::choices::{edges_named, flag, is_id_missing, scope_named};
-use crate::lent::name_of;
+use crate::borrowed::name_of;
+use crate::options::{edges_named, flag, is_id_missing, scope_named};
 use crate::refusal::CallRefusal;
 use crate::topologies::topology_of;
 use faults::OutOfMemory;

@@ -1,6 +1,6 @@
 //! The laws of merging, of taking features out and of edits, as contracts of functions that do nothing.
-//! Those of arcs that are cut or joined again are passed on from `recutting` and `rejoining`, and those
-//! that need nothing of either from the crates below.
+//! Those of arcs that are split or healed are passed on from `split_arcs` and `heal_arcs`, and those that
+//! need nothing of either from the crates below.
 ghost use Rattle.refine.specs.EditLaws.{JoinsAreUndoneByEdits, OneEditIsAList};
 ghost use Rattle.refine.specs.Removals.{JoinsAreUndone};
 ghost use Rattle.refine.specs.TextLaws.{MergedTextsMeanUnions};

@@ -93,7 +93,7 @@ impl Tally {
     }
 
     /// Makes a call, and makes it again where what it needs could not be made.
-    pub fn settle<L, F: Fn(Global, &L) -> Outcome>(
+    pub fn test<L, F: Fn(Global, &L) -> Outcome>(
         &mut self,
         rt: &HostRuntime,
         title: &str,
@@ -121,7 +121,7 @@ impl Tally {
     )
         requires { F.IsAlwaysCallable ask }
     {
-        self.settle(rt, title, lent, name, |alloc: Global, lent: &L| {
+        self.test(rt, title, lent, name, |alloc: Global, lent: &L| {
             ask_twice(alloc, lent, &ask)
         });
     }

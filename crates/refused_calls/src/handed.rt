@@ -22,7 +22,7 @@ pub trait Handed: Drop + Sized {
     fn make(alloc: Global) -> Option<Self>;
 
     /// Makes the calls.
-    fn settle(self, rt: &HostRuntime, tally: &mut Tally);
+    fn test(self, rt: &HostRuntime, tally: &mut Tally);
 }
 
 impl<A: Handed, B: Handed> Handed for (A, B) {
@@ -30,10 +30,10 @@ impl<A: Handed, B: Handed> Handed for (A, B) {
         both(A::make(alloc), B::make(alloc))
     }
 
-    fn settle(self, rt: &HostRuntime, tally: &mut Tally) {
+    fn test(self, rt: &HostRuntime, tally: &mut Tally) {
         let (first, second) = self;
-        first.settle(rt, tally);
-        second.settle(rt, tally);
+        first.test(rt, tally);
+        second.test(rt, tally);
     }
 }
 
@@ -50,7 +50,7 @@ impl Tally {
     }
 
     /// Makes what calls are handed, then one request, the last, and then the calls.
-    pub fn settle_handed<H: Handed>(&mut self, rt: &HostRuntime) {
+    pub fn test_handed<H: Handed>(&mut self, rt: &HostRuntime) {
         let made = self.lent(
             rt,
             TITLE,
@@ -59,7 +59,7 @@ impl Tally {
         );
         self.attempt(rt, TITLE, &(), "a request", ask_once);
         if let Some(handed) = made {
-            handed.settle(rt, self);
+            handed.test(rt, self);
         }
     }
 }

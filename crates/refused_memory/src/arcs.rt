@@ -10,10 +10,10 @@ mod tables;
 use refused_calls::outcome::Tally;
 
 /// Makes these calls.
-pub(crate) fn settle(rt: &HostRuntime, tally: &mut Tally) {
-    indexes::settle(rt, tally);
-    pieces::settle(rt, tally);
-    segments::settle(rt, tally);
-    tables::settle(rt, tally);
-    lists::settle(rt, tally);
+pub(crate) fn test(rt: &HostRuntime, tally: &mut Tally) {
+    indexes::test(rt, tally);
+    pieces::test(rt, tally);
+    segments::test(rt, tally);
+    tables::test(rt, tally);
+    lists::test(rt, tally);
 }

@@ -27,12 +27,12 @@ fn first_word(rt: &HostRuntime) -> Option<String> {
     }
 }
 
-fn settle(rt: &HostRuntime, tally: &mut Tally, group: &str) {
+fn test(rt: &HostRuntime, tally: &mut Tally, group: &str) {
     match group {
-        "parts" => parts::settle(rt, tally),
-        "arcs" => arcs::settle(rt, tally),
-        "maps" => maps::settle(rt, tally),
-        "edits" => edits::settle(rt, tally),
+        "parts" => parts::test(rt, tally),
+        "arcs" => arcs::test(rt, tally),
+        "maps" => maps::test(rt, tally),
+        "edits" => edits::test(rt, tally),
         _ => {}
     }
 }
@@ -40,10 +40,10 @@ fn settle(rt: &HostRuntime, tally: &mut Tally, group: &str) {
 fn main(rt: HostRuntime) -> ExitCode {
     let mut tally = Tally::new();
     match first_word(&rt) {
-        Some(group) => settle(&rt, &mut tally, group.as_str()),
+        Some(group) => test(&rt, &mut tally, group.as_str()),
         None => {
             for group in GROUPS {
-                settle(&rt, &mut tally, group);
+                test(&rt, &mut tally, group);
             }
         }
     }

@@ -16,15 +16,15 @@ use refused_calls::outcome::Tally;
 use streams::Squares;
 
 /// Makes these calls; last those that take no memory.
-pub(crate) fn settle(rt: &HostRuntime, tally: &mut Tally) {
+pub(crate) fn test(rt: &HostRuntime, tally: &mut Tally) {
     let lent = tally.lent(rt, "without memory", "its map", Squares::of);
-    parts::settle(rt, tally);
-    worked::settle(rt, tally);
-    taken::settle(rt, tally);
-    recuts::settle(rt, tally);
-    unions::settle(rt, tally);
-    arcs::settle(rt, tally);
+    parts::test(rt, tally);
+    worked::test(rt, tally);
+    taken::test(rt, tally);
+    recuts::test(rt, tally);
+    unions::test(rt, tally);
+    arcs::test(rt, tally);
     if let Some(squares) = &lent {
-        streams::settle(rt, tally, squares);
+        streams::test(rt, tally, squares);
     }
 }

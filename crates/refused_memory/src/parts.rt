@@ -8,9 +8,9 @@ mod values;
 use refused_calls::outcome::Tally;
 
 /// Makes these calls.
-pub(crate) fn settle(rt: &HostRuntime, tally: &mut Tally) {
-    values::settle(rt, tally);
-    features::settle(rt, tally);
-    topologies::settle(rt, tally);
-    texts::settle(rt, tally);
+pub(crate) fn test(rt: &HostRuntime, tally: &mut Tally) {
+    values::test(rt, tally);
+    features::test(rt, tally);
+    topologies::test(rt, tally);
+    texts::test(rt, tally);
 }

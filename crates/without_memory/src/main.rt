@@ -30,8 +30,8 @@ use std::process::ExitCode;
 fn tally_of(rt: &HostRuntime, group: &str) -> Option<Tally> {
     let mut tally = Tally::new();
     match group {
-        "parts" => parts::settle(rt, &mut tally),
-        "maps" => maps::settle(rt, &mut tally),
+        "parts" => parts::test(rt, &mut tally),
+        "maps" => maps::test(rt, &mut tally),
         _ => return None,
     }
     Some(tally)

@@ -8,6 +8,6 @@ use refused_calls::outcome::Tally;
 use results::{Results, Shards};
 
 /// Makes these calls.
-pub(crate) fn settle(rt: &HostRuntime, tally: &mut Tally) {
-    tally.settle_handed::<((Squares, Cut), (Results, Shards))>(rt);
+pub(crate) fn test(rt: &HostRuntime, tally: &mut Tally) {
+    tally.test_handed::<((Squares, Cut), (Results, Shards))>(rt);
 }

@@ -12,6 +12,6 @@ use values::{Features, Values};
 use writers::Writers;
 
 /// Makes these calls.
-pub(crate) fn settle(rt: &HostRuntime, tally: &mut Tally) {
-    tally.settle_handed::<((Numbers, Writers), ((Values, Features), Lists))>(rt);
+pub(crate) fn test(rt: &HostRuntime, tally: &mut Tally) {
+    tally.test_handed::<((Numbers, Writers), ((Values, Features), Lists))>(rt);
 }

@@ -103,6 +103,6 @@ impl Lends for Indexing {
 }
 
 /// Makes each call of indexes.
-pub(crate) fn settle(rt: &HostRuntime, tally: &mut Tally) {
+pub(crate) fn test(rt: &HostRuntime, tally: &mut Tally) {
     tally.attempt_each::<Indexing>(rt, "indexes of visits", ROWS);
 }

@@ -94,6 +94,6 @@ impl Lends for Lists {
 }
 
 /// Makes each call of lists of arcs.
-pub(crate) fn settle(rt: &HostRuntime, tally: &mut Tally) {
+pub(crate) fn test(rt: &HostRuntime, tally: &mut Tally) {
     tally.attempt_each::<Lists>(rt, "lists of arcs", ROWS);
 }

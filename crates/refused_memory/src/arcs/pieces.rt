@@ -203,6 +203,6 @@ impl Lends for Cutting {
 }
 
 /// Makes each call of pieces.
-pub(crate) fn settle(rt: &HostRuntime, tally: &mut Tally) {
+pub(crate) fn test(rt: &HostRuntime, tally: &mut Tally) {
     tally.attempt_each::<Cutting>(rt, "pieces", ROWS);
 }

@@ -125,6 +125,6 @@ impl Lends for Segments {
 }
 
 /// Makes each call of segments.
-pub(crate) fn settle(rt: &HostRuntime, tally: &mut Tally) {
+pub(crate) fn test(rt: &HostRuntime, tally: &mut Tally) {
     tally.attempt_each::<Segments>(rt, "segments", ROWS);
 }

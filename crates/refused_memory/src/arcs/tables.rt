@@ -127,6 +127,6 @@ impl Lends for Tables {
 }
 
 /// Makes each call of tables.
-pub(crate) fn settle(rt: &HostRuntime, tally: &mut Tally) {
+pub(crate) fn test(rt: &HostRuntime, tally: &mut Tally) {
     tally.attempt_each::<Tables>(rt, "tables", ROWS);
 }

@@ -179,7 +179,7 @@ fn run_cuts(alloc: Global, squares: &Squares) -> Answer {
 }
 
 /// Makes each call of the three squares.
-pub(crate) fn settle(rt: &HostRuntime, tally: &mut Tally) {
+pub(crate) fn test(rt: &HostRuntime, tally: &mut Tally) {
     if let Some(squares) = tally.lent(rt, "three squares", "their shards", Squares::of) {
         calls!(tally.ask(rt, "three squares", &squares);
             "refine::merge_texts" => merge,

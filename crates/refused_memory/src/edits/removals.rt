@@ -122,7 +122,7 @@ fn ask_by_topology(alloc: Global, removing: &Removing) -> Answer {
 }
 
 /// Takes out what each row says.
-pub(crate) fn settle(rt: &HostRuntime, tally: &mut Tally) {
+pub(crate) fn test(rt: &HostRuntime, tally: &mut Tally) {
     for row in ROWS {
         if let Some(removing) = tally.lent(
             rt,

@@ -92,7 +92,7 @@ fn apply(session: &mut Session, edits: &Edits, place: usize) -> Answer {
 }
 
 /// Applies the edit at a place to a session after the edits before it.
-fn settle_apply(alloc: Global, edits: &Edits, place: usize) -> Outcome {
+fn test_apply(alloc: Global, edits: &Edits, place: usize) -> Outcome {
     change(
         edits,
         edits.session_after(alloc, place),
@@ -102,15 +102,15 @@ fn settle_apply(alloc: Global, edits: &Edits, place: usize) -> Outcome {
 }
 
 fn join(alloc: Global, edits: &Edits) -> Outcome {
-    settle_apply(alloc, edits, 0)
+    test_apply(alloc, edits, 0)
 }
 
 fn join_beside(alloc: Global, edits: &Edits) -> Outcome {
-    settle_apply(alloc, edits, 1)
+    test_apply(alloc, edits, 1)
 }
 
 fn remove(alloc: Global, edits: &Edits) -> Outcome {
-    settle_apply(alloc, edits, 2)
+    test_apply(alloc, edits, 2)
 }
 
 /// The edits behind a place are all applied.
@@ -127,7 +127,7 @@ fn apply_rest(session: &mut Session, edits: &Edits, place: usize) -> Answer {
     }
 }
 
-fn settle_all_edits(alloc: Global, edits: &Edits) -> Outcome {
+fn test_all_edits(alloc: Global, edits: &Edits) -> Outcome {
     let Some(mut session) = edits.session_after(alloc, 0) else {
         return Outcome::Unprepared;
     };
@@ -164,7 +164,7 @@ fn text(session: &Session) -> Answer {
     }
 }
 
-fn settle_text(alloc: Global, edits: &Edits) -> Outcome {
+fn test_text(alloc: Global, edits: &Edits) -> Outcome {
     change(
         edits,
         edits.session_after(alloc, 2),
@@ -174,15 +174,15 @@ fn settle_text(alloc: Global, edits: &Edits) -> Outcome {
 }
 
 /// Makes each call of sessions.
-pub(crate) fn settle(rt: &HostRuntime, tally: &mut Tally) {
+pub(crate) fn test(rt: &HostRuntime, tally: &mut Tally) {
     if let Some(edits) = tally.lent(rt, "a session", "its edits", Edits::of) {
         tally.ask(rt, "a session", &edits, "Session::start", start);
-        calls!(tally.settle(rt, "a session", &edits);
+        calls!(tally.test(rt, "a session", &edits);
             "Session::apply of a first join" => join,
             "Session::apply of a second join" => join_beside,
             "Session::apply of a removal" => remove,
-            "Session::apply_all" => settle_all_edits,
-            "Session::text" => settle_text,
+            "Session::apply_all" => test_all_edits,
+            "Session::text" => test_text,
         );
     }
 }

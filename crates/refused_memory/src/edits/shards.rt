@@ -178,7 +178,7 @@ fn find_leaf(alloc: Global, _: &Pair<Cut>) -> Result<bool, OutOfMemory> {
     }
 }
 
-fn settle_wholes(rt: &HostRuntime, tally: &mut Tally, pair: &Pair<Whole>) {
+fn test_wholes(rt: &HostRuntime, tally: &mut Tally, pair: &Pair<Whole>) {
     calls!(tally.attempt(rt, "whole shards", pair);
         "Shard::from_map of Whole" => from_map::<Whole>,
         "Shard::of_text of Whole" => of_text::<Whole>,
@@ -192,7 +192,7 @@ fn settle_wholes(rt: &HostRuntime, tally: &mut Tally, pair: &Pair<Whole>) {
     );
 }
 
-fn settle_cuts(rt: &HostRuntime, tally: &mut Tally, pair: &Pair<Cut>) {
+fn test_cuts(rt: &HostRuntime, tally: &mut Tally, pair: &Pair<Cut>) {
     calls!(tally.attempt(rt, "cut shards", pair);
         "Shard::from_map of Cut" => from_map::<Cut>,
         "Shard::of_text of Cut" => of_text::<Cut>,
@@ -211,11 +211,11 @@ fn settle_cuts(rt: &HostRuntime, tally: &mut Tally, pair: &Pair<Cut>) {
 }
 
 /// Makes each call of shards.
-pub(crate) fn settle(rt: &HostRuntime, tally: &mut Tally) {
+pub(crate) fn test(rt: &HostRuntime, tally: &mut Tally) {
     if let Some(pair) = tally.lent(rt, "whole shards", "the shards", Pair::<Whole>::of) {
-        settle_wholes(rt, tally, &pair);
+        test_wholes(rt, tally, &pair);
     }
     if let Some(pair) = tally.lent(rt, "cut shards", "the shards", Pair::<Cut>::of) {
-        settle_cuts(rt, tally, &pair);
+        test_cuts(rt, tally, &pair);
     }
 }

@@ -1,4 +1,4 @@
-//! Arcs taken as they stand, and which of them are free loops.
+//! Arcs of a text as they are: whether they are noded, and which of them are free loops.
 
 use chains::ArcTable;
 use faults::OutOfMemory;
@@ -46,7 +46,7 @@ const ROWS: &[Row] = &[
 
 /// The arcs of a row as lists, and its topology.
 #[derive(Drop)]
-struct Standing {
+struct ArcsOfRow {
     row: &'static Row,
     topology: Topology,
     arcs: Vec<Items<Pos>>,
@@ -65,11 +65,11 @@ fn lists(alloc: Global, table: &ArcTable) -> Option<Vec<Items<Pos>>> {
     Some(made)
 }
 
-impl Standing {
-    fn of(alloc: Global, row: &'static Row) -> Option<Standing> {
+impl ArcsOfRow {
+    fn of(alloc: Global, row: &'static Row) -> Option<ArcsOfRow> {
         let topology = built(alloc, row.topology)?;
         let arcs = lists(alloc, topology.arcs())?;
-        Some(Standing {
+        Some(ArcsOfRow {
             row,
             topology,
             arcs,
@@ -77,51 +77,51 @@ impl Standing {
     }
 }
 
-impl Lent for Standing {
+impl Lent for ArcsOfRow {
     fn is_as_before(&self) -> bool {
         is_of(&self.topology, self.row.topology)
             && are_lists_of(self.arcs.as_slice(), self.topology.arcs())
     }
 }
 
-fn apart(alloc: Global, table: &ArcTable, standing: &Standing) -> Answer {
+fn noded(alloc: Global, table: &ArcTable, arcs_of_row: &ArcsOfRow) -> Answer {
     match is_noded(alloc, table) {
-        Ok(apart) => Answer::of(apart && same_arcs(table, standing.topology.arcs())),
+        Ok(is_noded) => Answer::of(is_noded && same_arcs(table, arcs_of_row.topology.arcs())),
         Err(OutOfMemory) => Answer::Wanting,
     }
 }
 
-fn read(alloc: Global, standing: &Standing) -> Answer {
-    let Some(arcs) = lists(alloc, standing.topology.arcs()) else {
+fn read(alloc: Global, arcs_of_row: &ArcsOfRow) -> Answer {
+    let Some(arcs) = lists(alloc, arcs_of_row.topology.arcs()) else {
         return Answer::Unasked;
     };
-    match ArcTable::from_sorted(alloc, arcs, standing.row.free) {
-        Ok(Some(table)) => apart(alloc, &table, standing),
+    match ArcTable::from_sorted(alloc, arcs, arcs_of_row.row.free) {
+        Ok(Some(table)) => noded(alloc, &table, arcs_of_row),
         Ok(None) => Answer::Wrong,
         Err(OutOfMemory) => Answer::Wanting,
     }
 }
 
-fn mark(alloc: Global, standing: &Standing) -> Answer {
-    let Some(line_ends) = positions(alloc, standing.row.line_ends) else {
+fn mark(alloc: Global, arcs_of_row: &ArcsOfRow) -> Answer {
+    let Some(line_ends) = positions(alloc, arcs_of_row.row.line_ends) else {
         return Answer::Unasked;
     };
-    match free_loops(alloc, standing.arcs.as_slice(), line_ends) {
-        Ok(marks) => Answer::of(marks.as_slice() == standing.row.free),
+    match free_loops(alloc, arcs_of_row.arcs.as_slice(), line_ends) {
+        Ok(marks) => Answer::of(marks.as_slice() == arcs_of_row.row.free),
         Err(OutOfMemory) => Answer::Wanting,
     }
 }
 
-fn settle_row(rt: &HostRuntime, tally: &mut Tally, row: &'static Row) {
-    let made = tally.lent(rt, row.title, "its arcs", |alloc| Standing::of(alloc, row));
-    if let Some(standing) = made {
-        calls!(tally.ask(rt, row.title, &standing); "is_noded" => read, "free_loops" => mark);
+fn test_row(rt: &HostRuntime, tally: &mut Tally, row: &'static Row) {
+    let made = tally.lent(rt, row.title, "its arcs", |alloc| ArcsOfRow::of(alloc, row));
+    if let Some(arcs_of_row) = made {
+        calls!(tally.ask(rt, row.title, &arcs_of_row); "is_noded" => read, "free_loops" => mark);
     }
 }
 
-/// Takes the arcs of each row as they stand.
-pub(crate) fn settle(rt: &HostRuntime, tally: &mut Tally) {
+/// Makes each call that judges the arcs of a row.
+pub(crate) fn test(rt: &HostRuntime, tally: &mut Tally) {
     for row in ROWS {
-        settle_row(rt, tally, row);
+        test_row(rt, tally, row);
     }
 }

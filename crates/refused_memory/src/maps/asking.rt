@@ -53,7 +53,7 @@ fn exterior(alloc: Global, worked: &Worked) -> Answer {
 }
 
 /// Asks each question.
-pub(crate) fn settle(rt: &HostRuntime, tally: &mut Tally, worked: &Worked) {
+pub(crate) fn test(rt: &HostRuntime, tally: &mut Tally, worked: &Worked) {
     calls!(tally.ask(rt, worked.row.title, worked);
         "query::feature" => features,
         "query::neighbors" => neighbors,

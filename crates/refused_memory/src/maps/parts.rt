@@ -61,7 +61,7 @@ fn properties(alloc: Global, _: &()) -> Answer {
 }
 
 /// Makes each of these parts.
-pub(crate) fn settle(rt: &HostRuntime, tally: &mut Tally) {
+pub(crate) fn test(rt: &HostRuntime, tally: &mut Tally) {
     calls!(tally.ask(rt, "parts of features", &());
         "Ring::from_closed" => ring,
         "Line::from_positions" => line,

@@ -103,7 +103,7 @@ fn expand(alloc: Global, worked: &Worked) -> Answer {
 }
 
 /// Makes each call that reads or builds.
-pub(crate) fn settle(rt: &HostRuntime, tally: &mut Tally, worked: &Worked) {
+pub(crate) fn test(rt: &HostRuntime, tally: &mut Tally, worked: &Worked) {
     calls!(tally.ask(rt, worked.row.title, worked);
         "geojson_io::read" => read_geojson,
         "topo_io::read" => read_topology,

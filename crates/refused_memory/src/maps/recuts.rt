@@ -90,7 +90,7 @@ fn ask(alloc: Global, pair: &Pair) -> Answer {
 }
 
 /// Cuts the arcs of each row again.
-pub(crate) fn settle(rt: &HostRuntime, tally: &mut Tally) {
+pub(crate) fn test(rt: &HostRuntime, tally: &mut Tally) {
     for row in ROWS {
         if let Some(pair) = tally.lent(rt, row.title, "recut", |alloc| Pair::of(alloc, row)) {
             tally.ask(rt, row.title, &pair, "split_arcs::recut", ask);

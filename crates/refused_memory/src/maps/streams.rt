@@ -208,7 +208,7 @@ fn fits(squares: &Squares) -> bool {
 }
 
 /// Makes each call that takes no memory.
-pub(crate) fn settle(rt: &HostRuntime, tally: &mut Tally, squares: &Squares) {
+pub(crate) fn test(rt: &HostRuntime, tally: &mut Tally, squares: &Squares) {
     calls!(tally.ask_without_memory(rt, "without memory", squares);
         "topo_io::write" => writes_topology,
         "topo_io::write of the largest and least" => writes_largest_and_least,

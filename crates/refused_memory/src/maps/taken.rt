@@ -52,7 +52,7 @@ fn ask(alloc: Global, row: &Row) -> Answer {
 }
 
 /// Reads the topology of each text.
-pub(crate) fn settle(rt: &HostRuntime, tally: &mut Tally) {
+pub(crate) fn test(rt: &HostRuntime, tally: &mut Tally) {
     for row in ROWS {
         tally.ask(rt, row.title, row, "topo_io::read_topology", ask);
     }

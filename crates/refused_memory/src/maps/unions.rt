@@ -78,7 +78,7 @@ fn add_layer(map: &mut FeatureMap, maps: &Maps) -> Answer {
     }
 }
 
-fn settle_add_layer(_: Global, maps: &Maps) -> Outcome {
+fn test_add_layer(_: Global, maps: &Maps) -> Outcome {
     change(
         maps,
         maps.one.copy().ok(),
@@ -98,7 +98,7 @@ fn insert(alloc: Global, map: &mut FeatureMap, maps: &Maps) -> Answer {
     }
 }
 
-fn settle_insert(alloc: Global, maps: &Maps) -> Outcome {
+fn test_insert(alloc: Global, maps: &Maps) -> Outcome {
     change(
         maps,
         with_layer(&maps.one),
@@ -129,11 +129,11 @@ fn union(_: Global, maps: &Maps) -> Answer {
 }
 
 /// Makes each call of maps.
-pub(crate) fn settle(rt: &HostRuntime, tally: &mut Tally) {
+pub(crate) fn test(rt: &HostRuntime, tally: &mut Tally) {
     if let Some(maps) = tally.lent(rt, "maps of squares", "its maps", Maps::of) {
-        calls!(tally.settle(rt, "maps of squares", &maps);
-            "FeatureMap::add_layer" => settle_add_layer,
-            "FeatureMap::insert" => settle_insert,
+        calls!(tally.test(rt, "maps of squares", &maps);
+            "FeatureMap::add_layer" => test_add_layer,
+            "FeatureMap::insert" => test_insert,
         );
         calls!(tally.ask(rt, "maps of squares", &maps);
             "FeatureMap::with_features" => with_features,

@@ -78,18 +78,18 @@ impl Lent for Worked {
     }
 }
 
-fn settle_row(rt: &HostRuntime, tally: &mut Tally, row: &'static Row) {
+fn test_row(rt: &HostRuntime, tally: &mut Tally, row: &'static Row) {
     let made = tally.lent(rt, row.title, "its map", |alloc| Worked::of(alloc, row));
     if let Some(worked) = made {
-        readers::settle(rt, tally, &worked);
-        asking::settle(rt, tally, &worked);
-        writers::settle(rt, tally, &worked);
+        readers::test(rt, tally, &worked);
+        asking::test(rt, tally, &worked);
+        writers::test(rt, tally, &worked);
     }
 }
 
 /// Makes each call of each worked map.
-pub(crate) fn settle(rt: &HostRuntime, tally: &mut Tally) {
+pub(crate) fn test(rt: &HostRuntime, tally: &mut Tally) {
     for row in ROWS {
-        settle_row(rt, tally, row);
+        test_row(rt, tally, row);
     }
 }

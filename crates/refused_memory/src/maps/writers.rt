@@ -100,7 +100,7 @@ fn union(_: Global, worked: &Worked) -> Answer {
 }
 
 /// Makes each call that writes, copies or puts maps together.
-pub(crate) fn settle(rt: &HostRuntime, tally: &mut Tally, worked: &Worked) {
+pub(crate) fn test(rt: &HostRuntime, tally: &mut Tally, worked: &Worked) {
     calls!(tally.ask(rt, worked.row.title, worked);
         "topo_io::text_of" => text_of,
         "topo_io::write" => write,

@@ -188,6 +188,6 @@ impl Lends for Features {
 }
 
 /// Makes each call of features.
-pub(crate) fn settle(rt: &HostRuntime, tally: &mut Tally) {
+pub(crate) fn test(rt: &HostRuntime, tally: &mut Tally) {
     tally.attempt_each::<Features>(rt, "features", ROWS);
 }

@@ -153,6 +153,6 @@ impl Lends for Square {
 }
 
 /// Makes each call of texts.
-pub(crate) fn settle(rt: &HostRuntime, tally: &mut Tally) {
+pub(crate) fn test(rt: &HostRuntime, tally: &mut Tally) {
     tally.attempt_each::<Square>(rt, "texts", ROWS);
 }

@@ -131,6 +131,6 @@ impl Lends for Squares {
 }
 
 /// Makes each call of topologies.
-pub(crate) fn settle(rt: &HostRuntime, tally: &mut Tally) {
+pub(crate) fn test(rt: &HostRuntime, tally: &mut Tally) {
     tally.attempt_each::<Squares>(rt, "topologies", ROWS);
 }

@@ -238,6 +238,6 @@ impl Lends for Values {
 }
 
 /// Makes each call of values.
-pub(crate) fn settle(rt: &HostRuntime, tally: &mut Tally) {
+pub(crate) fn test(rt: &HostRuntime, tally: &mut Tally) {
     tally.attempt_each::<Values>(rt, "values", ROWS);
 }

@@ -237,7 +237,7 @@ fn flips() -> bool {
     are_used(&[used.flip(), used.flip().flip()], &[-2, 1])
 }
 
-fn settle_table(rt: &HostRuntime, tally: &mut Tally, arcs: &ArcTable) {
+fn test_table(rt: &HostRuntime, tally: &mut Tally, arcs: &ArcTable) {
     rows!(rt, tally;
         "ArcRef::flip" => flips(),
         "ArcTable::len" => arcs.len() == 3,
@@ -246,7 +246,7 @@ fn settle_table(rt: &HostRuntime, tally: &mut Tally, arcs: &ArcTable) {
     );
 }
 
-fn settle_runs(rt: &HostRuntime, tally: &mut Tally, topology: &Topology) {
+fn test_runs(rt: &HostRuntime, tally: &mut Tally, topology: &Topology) {
     rows!(rt, tally;
         "ArcSlice::empty" => ArcSlice::empty().len() == 0,
         "ArcSlice::of_arc" => run(topology).len() == 4,
@@ -260,7 +260,7 @@ fn settle_runs(rt: &HostRuntime, tally: &mut Tally, topology: &Topology) {
     );
 }
 
-fn settle_topology(rt: &HostRuntime, tally: &mut Tally, topology: &Topology) {
+fn test_topology(rt: &HostRuntime, tally: &mut Tally, topology: &Topology) {
     rows!(rt, tally;
         "Layer::name" => has_name(topology),
         "Layer::geometries" => has_name(topology),
@@ -311,10 +311,10 @@ pub(crate) struct Squares {
 }
 
 impl Squares {
-    fn settle_each(&self, rt: &HostRuntime, tally: &mut Tally) {
-        settle_table(rt, tally, self.topology.arcs());
-        settle_runs(rt, tally, &self.topology);
-        settle_topology(rt, tally, &self.topology);
+    fn test_each(&self, rt: &HostRuntime, tally: &mut Tally) {
+        test_table(rt, tally, self.topology.arcs());
+        test_runs(rt, tally, &self.topology);
+        test_topology(rt, tally, &self.topology);
     }
 }
 
@@ -324,8 +324,8 @@ impl Handed for Squares {
         Some(Squares { topology, name })
     }
 
-    fn settle(self, rt: &HostRuntime, tally: &mut Tally) {
-        self.settle_each(rt, tally);
+    fn test(self, rt: &HostRuntime, tally: &mut Tally) {
+        self.test_each(rt, tally);
         let Squares { topology, name } = self;
         let are_apart = takes_apart(topology, name);
         rows!(rt, tally;
@@ -353,7 +353,7 @@ fn pieces_of_square(alloc: Global) -> Option<Vec<Piece>> {
     cut_ring(alloc, &index, &ring).ok()
 }
 
-fn settle_pieces(rt: &HostRuntime, tally: &mut Tally, pieces: &[Piece]) {
+fn test_pieces(rt: &HostRuntime, tally: &mut Tally, pieces: &[Piece]) {
     rows!(rt, tally;
         "Piece::chain" => is_cut(pieces),
         "Piece::reversed" => is_cut(pieces),
@@ -362,7 +362,7 @@ fn settle_pieces(rt: &HostRuntime, tally: &mut Tally, pieces: &[Piece]) {
 }
 
 impl Cut {
-    fn settle_each(&self, rt: &HostRuntime, tally: &mut Tally) {
+    fn test_each(&self, rt: &HostRuntime, tally: &mut Tally) {
         rows!(rt, tally;
             "ArcTable::arc" => has_arc(&self.topology),
             "ArcTable::find" => finds(&self.topology, self.pieces.as_slice()),
@@ -384,8 +384,8 @@ impl Handed for Cut {
         })
     }
 
-    fn settle(self, rt: &HostRuntime, tally: &mut Tally) {
-        settle_pieces(rt, tally, self.pieces.as_slice());
-        self.settle_each(rt, tally);
+    fn test(self, rt: &HostRuntime, tally: &mut Tally) {
+        test_pieces(rt, tally, self.pieces.as_slice());
+        self.test_each(rt, tally);
     }
 }

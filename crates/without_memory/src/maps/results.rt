@@ -21,7 +21,7 @@ use std::alloc::Global;
 #[derive(Drop)]
 pub(crate) struct Results {
     recut: Recut,
-    rejoined: HealedArcs,
+    healed: HealedArcs,
     removal: Removal,
 }
 
@@ -57,8 +57,8 @@ fn has_cut(recut: &Recut) -> bool {
         && recut.pieces(Side::Right, 1).is_none()
 }
 
-fn has_joined(rejoined: &HealedArcs) -> bool {
-    is_list(rejoined.pieces(0), &[0, -2]) && rejoined.pieces(1).is_none()
+fn has_healed(healed: &HealedArcs) -> bool {
+    is_list(healed.pieces(0), &[0, -2]) && healed.pieces(1).is_none()
 }
 
 fn has_old_arcs(removal: &Removal) -> bool {
@@ -71,8 +71,8 @@ fn has_arcs(recut: Recut) -> bool {
 }
 
 /// The one arc, and the run of old ones that it is made of.
-fn has_run(rejoined: HealedArcs) -> bool {
-    let (arcs, runs) = rejoined.into_parts();
+fn has_run(healed: HealedArcs) -> bool {
+    let (arcs, runs) = healed.into_parts();
     match runs.as_slice() {
         [run] => arcs.len() == 1 && run.as_slice().len() == 2,
         _ => false,
@@ -84,12 +84,12 @@ fn is_first(removal: Removal) -> bool {
 }
 
 impl Results {
-    fn settle_each(&self, rt: &HostRuntime, tally: &mut Tally) {
+    fn test_each(&self, rt: &HostRuntime, tally: &mut Tally) {
         rows!(rt, tally;
             "Recut::arcs" => self.recut.arcs().len() == 6,
             "Recut::pieces" => has_cut(&self.recut),
-            "HealedArcs::arcs" => self.rejoined.arcs().len() == 1,
-            "HealedArcs::pieces" => has_joined(&self.rejoined),
+            "HealedArcs::arcs" => self.healed.arcs().len() == 1,
+            "HealedArcs::pieces" => has_healed(&self.healed),
             "Removal::topology" => is_of(self.removal.topology(), FIRST),
             "Removal::pieces" => has_old_arcs(&self.removal),
         );
@@ -99,23 +99,23 @@ impl Results {
 impl Handed for Results {
     fn make(alloc: Global) -> Option<Results> {
         let joined = both(joined_again(alloc), taken_out(alloc));
-        let (recut, (rejoined, removal)) = both(cut_again(alloc), joined)?;
+        let (recut, (healed, removal)) = both(cut_again(alloc), joined)?;
         Some(Results {
             recut,
-            rejoined,
+            healed,
             removal,
         })
     }
 
-    fn settle(self, rt: &HostRuntime, tally: &mut Tally) {
-        self.settle_each(rt, tally);
+    fn test(self, rt: &HostRuntime, tally: &mut Tally) {
+        self.test_each(rt, tally);
         let Results {
             recut,
-            rejoined,
+            healed,
             removal,
         } = self;
         let has_arcs = has_arcs(recut);
-        let has_run = has_run(rejoined);
+        let has_run = has_run(healed);
         let is_first = is_first(removal);
         rows!(rt, tally;
             "Recut::into_arcs" => has_arcs,
@@ -167,7 +167,7 @@ fn is_on_grid<S: Shard>(shard: &S) -> bool {
 }
 
 impl Shards {
-    fn settle_each(&self, rt: &HostRuntime, tally: &mut Tally) {
+    fn test_each(&self, rt: &HostRuntime, tally: &mut Tally) {
         rows!(rt, tally;
             "Session::topology" => is_of(self.session.topology(), FIRST),
             "Shard::grid of Whole" => is_on_grid(&self.whole),
@@ -189,7 +189,7 @@ impl Handed for Shards {
         })
     }
 
-    fn settle(self, rt: &HostRuntime, tally: &mut Tally) {
-        self.settle_each(rt, tally);
+    fn test(self, rt: &HostRuntime, tally: &mut Tally) {
+        self.test_each(rt, tally);
     }
 }

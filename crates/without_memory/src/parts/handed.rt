@@ -51,7 +51,7 @@ fn has_bytes(kept: Kept) -> bool {
     kept.into_bytes().as_slice() == b"abc".as_slice()
 }
 
-fn settle_lists(rt: &HostRuntime, tally: &mut Tally, places: Vec<Pos>, text: String) {
+fn test_lists(rt: &HostRuntime, tally: &mut Tally, places: Vec<Pos>, text: String) {
     let are_places = keeps_places(places);
     let is_text = is_text(text);
     rows!(rt, tally;
@@ -62,7 +62,7 @@ fn settle_lists(rt: &HostRuntime, tally: &mut Tally, places: Vec<Pos>, text: Str
     );
 }
 
-fn settle_marks(rt: &HostRuntime, tally: &mut Tally, bits: PositionFilter, kept: Kept) {
+fn test_marks(rt: &HostRuntime, tally: &mut Tally, bits: PositionFilter, kept: Kept) {
     let are_marked = marks(bits);
     rows!(rt, tally;
         "PositionFilter::mark" => are_marked,
@@ -87,14 +87,14 @@ impl Handed for Lists {
         })
     }
 
-    fn settle(self, rt: &HostRuntime, tally: &mut Tally) {
+    fn test(self, rt: &HostRuntime, tally: &mut Tally) {
         let Lists {
             places,
             text,
             bits,
             kept,
         } = self;
-        settle_lists(rt, tally, places, text);
-        settle_marks(rt, tally, bits, kept);
+        test_lists(rt, tally, places, text);
+        test_marks(rt, tally, bits, kept);
     }
 }

@@ -51,7 +51,7 @@ impl Two {
         Segment::new(self.low, self.low).is_none()
     }
 
-    fn settle(self, rt: &HostRuntime, tally: &mut Tally) {
+    fn test(self, rt: &HostRuntime, tally: &mut Tally) {
         rows!(rt, tally;
             "Pos::new" => self.is_within(),
             "Pos::x" => self.low.x() == 3,
@@ -67,7 +67,7 @@ impl Two {
 }
 
 /// An axis of scale 10 from -500 on, on which 3 is at -470.
-fn settle_axis(rt: &HostRuntime, tally: &mut Tally, axis: Axis) {
+fn test_axis(rt: &HostRuntime, tally: &mut Tally, axis: Axis) {
     rows!(rt, tally;
         "Axis::new" => Axis::new(0, 0).is_none() && Axis::new(10, -500) == Some(axis),
         "Axis::scale" => axis.scale() == 10,
@@ -99,8 +99,8 @@ impl Placed {
             && self.grid.to_grid(-470, 1_099_511_627_777) == Err(GridFault::OutOfRange(1))
     }
 
-    fn settle(self, rt: &HostRuntime, tally: &mut Tally) {
-        settle_axis(rt, tally, self.grid.x_axis());
+    fn test(self, rt: &HostRuntime, tally: &mut Tally) {
+        test_axis(rt, tally, self.grid.x_axis());
         rows!(rt, tally;
             "Grid::new" => Grid::new(0, 1, 0, 0).is_none(),
             "Grid::scale" => self.grid.scale() == (10, 1),
@@ -129,7 +129,7 @@ fn first_marks() -> bool {
     mark && others.len() == 1 && !first_mark(&[]).0
 }
 
-fn settle_others(rt: &HostRuntime, tally: &mut Tally, alloc: Global) {
+fn test_others(rt: &HostRuntime, tally: &mut Tally, alloc: Global) {
     rows!(rt, tally;
         "FaultKind::number" => FaultKind::OutOfMemory.number() == 20,
         "FaultKind::name" => FaultKind::OutOfMemory.name() == "OutOfMemory",
@@ -156,9 +156,9 @@ impl Handed for Numbers {
         Some(Numbers { two, placed })
     }
 
-    fn settle(self, rt: &HostRuntime, tally: &mut Tally) {
-        self.two.settle(rt, tally);
-        self.placed.settle(rt, tally);
-        settle_others(rt, tally, rt.alloc());
+    fn test(self, rt: &HostRuntime, tally: &mut Tally) {
+        self.two.test(rt, tally);
+        self.placed.test(rt, tally);
+        test_others(rt, tally, rt.alloc());
     }
 }

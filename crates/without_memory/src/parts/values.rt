@@ -53,7 +53,7 @@ fn nests_in_two(value: &Value) -> bool {
 }
 
 impl Values {
-    fn settle_each(&self, rt: &HostRuntime, tally: &mut Tally) {
+    fn test_each(&self, rt: &HostRuntime, tally: &mut Tally) {
         rows!(rt, tally;
             "Items::as_slice" => stand_at(self.places.as_slice(), SQUARE),
             "Line::positions" => stand_at(self.line.positions(), SQUARE),
@@ -78,8 +78,8 @@ impl Handed for Values {
         })
     }
 
-    fn settle(self, rt: &HostRuntime, tally: &mut Tally) {
-        self.settle_each(rt, tally);
+    fn test(self, rt: &HostRuntime, tally: &mut Tally) {
+        self.test_each(rt, tally);
     }
 }
 
@@ -166,7 +166,7 @@ impl Placed<'_> {
         map.contains("a", self.square) && !map.contains("b", self.square)
     }
 
-    fn settle(&self, rt: &HostRuntime, tally: &mut Tally, features: &Features) {
+    fn test(&self, rt: &HostRuntime, tally: &mut Tally, features: &Features) {
         rows!(rt, tally;
             "Feature in order" => self.is_in_order(),
             "Spelled::text" => self.has_id(),
@@ -201,9 +201,9 @@ fn is_empty_map(alloc: Global) -> bool {
 }
 
 impl Features {
-    fn settle_each(&self, rt: &HostRuntime, tally: &mut Tally) {
+    fn test_each(&self, rt: &HostRuntime, tally: &mut Tally) {
         match Placed::of(self) {
-            Some(placed) => placed.settle(rt, tally, self),
+            Some(placed) => placed.test(rt, tally, self),
             None => tally.note_right(rt, "features", false),
         }
         rows!(rt, tally;
@@ -222,7 +222,7 @@ impl Handed for Features {
         Some(Features { map, same, far })
     }
 
-    fn settle(self, rt: &HostRuntime, tally: &mut Tally) {
-        self.settle_each(rt, tally);
+    fn test(self, rt: &HostRuntime, tally: &mut Tally) {
+        self.test_each(rt, tally);
     }
 }

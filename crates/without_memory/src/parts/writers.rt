@@ -78,7 +78,7 @@ fn writes_framed() -> bool {
     written.is_ok() && is_written(&place, b"<3,0>\0\0\0")
 }
 
-fn settle_sinks(rt: &HostRuntime, tally: &mut Tally, alloc: Global) {
+fn test_sinks(rt: &HostRuntime, tally: &mut Tally, alloc: Global) {
     rows!(rt, tally;
         "Sink::offer" => offers(),
         "Sink::flush" => flushes(),
@@ -92,7 +92,7 @@ fn settle_sinks(rt: &HostRuntime, tally: &mut Tally, alloc: Global) {
     );
 }
 
-fn settle_writers(rt: &HostRuntime, tally: &mut Tally) {
+fn test_writers(rt: &HostRuntime, tally: &mut Tally) {
     rows!(rt, tally;
         "Written::write" => writes_number(),
         "Notation::write_value" => writes_value(),
@@ -109,8 +109,8 @@ impl Handed for Writers {
         Some(Writers)
     }
 
-    fn settle(self, rt: &HostRuntime, tally: &mut Tally) {
-        settle_sinks(rt, tally, rt.alloc());
-        settle_writers(rt, tally);
+    fn test(self, rt: &HostRuntime, tally: &mut Tally) {
+        test_sinks(rt, tally, rt.alloc());
+        test_writers(rt, tally);
     }
 }

@@ -1,7 +1,7 @@
 use Rattle.std.proofs.Common.{subst}
 use Rattle.std.proofs.lemmas.Result.{IfOk-weaker}
 use Rattle.noshinka.specs.Answers.{IsBordersText}
-use Rattle.noshinka.specs.Choices.{edges_of, scope_of}
+use Rattle.noshinka.specs.Options.{edges_of, scope_of}
 use Rattle.noshinka.proofs.Texts.{mesh_answer}
 use Rattle.noshinka.proofs.questions.mesh.Goals as goal
 

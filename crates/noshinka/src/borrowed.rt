@@ -1,6 +1,6 @@
 //! What a caller's texts and room are during a call.
 ghost use Rattle.outputs.specs.BuiltText.Maps.{borrowed_texts};
-ghost use Rattle.noshinka.specs.Lent.{grid_of, lent_sources};
+ghost use Rattle.noshinka.specs.Borrowed.{grid_of, borrowed_sources};
 ghost use Rattle.noshinka.specs.Why.{IsBadName, IsBadSource};
 ghost use Rattle.grid.specs.Place.{IsTransform};
 ghost use Rattle.std.specs.Prelude.{◌≡◌, IfErr, IfNone, IfOk, IfSome};
@@ -56,8 +56,8 @@ pub(crate) fn borrow_sources<'a>(
     alloc: Global,
     sources: &[Source<'a>],
 ) -> Result<Vec<(&'a str, &'a [u8])>, CallRefusal>
-    ensures texts { IfOk result (λ v. borrowed_texts v.items ≡ lent_sources sources.now) }
-    ensures refused { IfErr result (IsBadSource (lent_sources sources.now)) }
+    ensures texts { IfOk result (λ v. borrowed_texts v.items ≡ borrowed_sources sources.now) }
+    ensures refused { IfErr result (IsBadSource (borrowed_sources sources.now)) }
 {
     let mut texts = Vec::with_capacity(alloc, sources.len())?;
     for source in sources {

@@ -1,10 +1,10 @@
 //! What the numbers of a caller stand for.
-ghost use Rattle.noshinka.specs.Choices.{edges_of, has_no_id, lacks_id, scope_of};
+ghost use Rattle.noshinka.specs.Options.{edges_of, has_no_id, lacks_id, scope_of};
 ghost use Rattle.noshinka.specs.Why.{IsChoiceRefusal, IsScopeRefusal};
 ghost use Rattle.std.specs.Option.{option_map};
 ghost use Rattle.std.specs.Prelude.{◌≡◌, ◌≤◌, IfErr, IfOk, nat_eq};
 
-use crate::lent::name_of;
+use crate::borrowed::name_of;
 use crate::refusal::CallRefusal;
 use query::Edges;
 use shapes::Id;

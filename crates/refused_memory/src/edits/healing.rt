@@ -1,4 +1,4 @@
-//! Arcs that are joined again where features go, and lists of them.
+//! Arcs that are healed where features go, and lists of them.
 
 use chains::{ArcRef, ArcTable};
 use faults::OutOfMemory;
@@ -27,7 +27,7 @@ const LINE_ENDS: Places = &[(0, 0), (2, 0)];
 
 /// Two squares, the first alone, and two lines; and the arcs of the first square and of the second line.
 #[derive(Drop)]
-struct Rejoins {
+struct HealedMaps {
     two: Topology,
     first: Topology,
     fork: Topology,
@@ -35,28 +35,33 @@ struct Rejoins {
     line: HealedArcs,
 }
 
-fn joined(alloc: Global, table: &ArcTable, kept: &[bool], ends: Places) -> Option<HealedArcs> {
+fn heal_arcs_of(
+    alloc: Global,
+    table: &ArcTable,
+    kept: &[bool],
+    ends: Places,
+) -> Option<HealedArcs> {
     let ends = positions(alloc, ends)?;
     heal(alloc, table, kept, ends.as_slice()).ok()
 }
 
-impl Rejoins {
-    fn with_maps(alloc: Global, two: Topology, fork: Topology) -> Option<Rejoins> {
-        Some(Rejoins {
-            square: joined(alloc, two.arcs(), FIRST_ARCS, &[])?,
-            line: joined(alloc, fork.arcs(), LINE_ARCS, LINE_ENDS)?,
+impl HealedMaps {
+    fn with_maps(alloc: Global, two: Topology, fork: Topology) -> Option<HealedMaps> {
+        Some(HealedMaps {
+            square: heal_arcs_of(alloc, two.arcs(), FIRST_ARCS, &[])?,
+            line: heal_arcs_of(alloc, fork.arcs(), LINE_ARCS, LINE_ENDS)?,
             first: built(alloc, FIRST)?,
             two,
             fork,
         })
     }
 
-    fn of(alloc: Global) -> Option<Rejoins> {
-        Rejoins::with_maps(alloc, built(alloc, SHARED_EDGE)?, built(alloc, FORK)?)
+    fn of(alloc: Global) -> Option<HealedMaps> {
+        HealedMaps::with_maps(alloc, built(alloc, SHARED_EDGE)?, built(alloc, FORK)?)
     }
 }
 
-impl Lent for Rejoins {
+impl Lent for HealedMaps {
     fn is_as_before(&self) -> bool {
         is_of(&self.two, SHARED_EDGE)
             && is_of(&self.fork, FORK)
@@ -65,28 +70,28 @@ impl Lent for Rejoins {
     }
 }
 
-fn join(alloc: Global, rejoins: &Rejoins) -> Result<bool, OutOfMemory> {
-    let made = heal(alloc, rejoins.two.arcs(), FIRST_ARCS, &[])?;
-    Ok(same_arcs(made.arcs(), rejoins.first.arcs()))
+fn heal_first(alloc: Global, healed: &HealedMaps) -> Result<bool, OutOfMemory> {
+    let made = heal(alloc, healed.two.arcs(), FIRST_ARCS, &[])?;
+    Ok(same_arcs(made.arcs(), healed.first.arcs()))
 }
 
-fn line(alloc: Global, rejoins: &Rejoins) -> Result<bool, OutOfMemory> {
+fn line(alloc: Global, healed: &HealedMaps) -> Result<bool, OutOfMemory> {
     let used = [ArcRef::from_index(0), ArcRef::from_index(2)];
-    let made = rejoins.line.line(alloc, &used)?;
+    let made = healed.line.line(alloc, &used)?;
     Ok(are_used(made.as_slice(), &[0]))
 }
 
-fn ring(alloc: Global, rejoins: &Rejoins) -> Result<bool, OutOfMemory> {
+fn ring(alloc: Global, healed: &HealedMaps) -> Result<bool, OutOfMemory> {
     let used = [ArcRef::from_index(1), ArcRef::from_index(-1)];
-    let made = rejoins.square.ring(alloc, &used)?;
+    let made = healed.square.ring(alloc, &used)?;
     Ok(are_used(made.as_slice(), &[-1]))
 }
 
-/// Makes each call of arcs that are joined again.
-pub(crate) fn settle(rt: &HostRuntime, tally: &mut Tally) {
-    if let Some(rejoins) = tally.lent(rt, "arcs joined again", "their maps", Rejoins::of) {
-        calls!(tally.attempt(rt, "arcs joined again", &rejoins);
-            "heal_arcs::heal" => join,
+/// Makes each call that heals arcs.
+pub(crate) fn test(rt: &HostRuntime, tally: &mut Tally) {
+    if let Some(healed) = tally.lent(rt, "healed arcs", "their maps", HealedMaps::of) {
+        calls!(tally.attempt(rt, "healed arcs", &healed);
+            "heal_arcs::heal" => heal_first,
             "HealedArcs::line" => line,
             "HealedArcs::ring" => ring,
         );

@@ -1,12 +1,12 @@
 -- What a caller of the library passes for a call.
 use Rattle.std.specs.Prelude.{ℕ, List, map}
 use Rattle.grid.specs.Place.{Transform, scaling, transform}
-use Rattle.noshinka.specs.declared.lent.GridNumbers.{GridNumbers}
-use Rattle.noshinka.specs.declared.lent.Source.{Source}
+use Rattle.noshinka.specs.declared.borrowed.GridNumbers.{GridNumbers}
+use Rattle.noshinka.specs.declared.borrowed.Source.{Source}
 
 -- the bytes of each name and text
-abbrev pub lent_sources : List Source → List (List ℕ × List ℕ)
-lent_sources sources = map (λ s. (s.layer.now, s.text.now)) sources
+abbrev pub borrowed_sources : List Source → List (List ℕ × List ℕ)
+borrowed_sources sources = map (λ s. (s.layer.now, s.text.now)) sources
 
 -- the transform of some numbers
 abbrev pub grid_of : GridNumbers → Transform
