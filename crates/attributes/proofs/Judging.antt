@@ -1,8 +1,9 @@
 -- Faults of ids and properties, by what the code finds of them.
-use Rattle.std.proofs.Common.{◌≡◌, ℕ, zero, suc, ◌+◌, ◌-◌, ◌^◌, ◌<◌, min, Bool, true, false, not, ◌&&◌, ◌||◌, nat_le, nat_lt, lit<, List, [], ◌∷◌, ◌++◌, Option, Some, None, option_map, unwrap_or, codes, refl, sym, ap, ◌∙◌, arith, lt-ltb}
+use Rattle.std.proofs.Common.{◌≡◌, ℕ, zero, suc, ◌+◌, ◌-◌, ◌^◌, ◌<◌, min, Bool, true, false, not, ◌&&◌, ◌||◌, nat_le, nat_lt, lit<, List, [], ◌∷◌, ◌++◌, Option, Some, None, is_some, option_and_then, option_map, unwrap_or, codes, Bor, refl, sym, ap, ◌∙◌, arith, lt-ltb}
 use Rattle.std.proofs.lemmas.List.{map-append}
 use Rattle.std.specs.Prelude.{if◌then◌else◌}
 use Rattle.json.specs.Json as json
+use Rattle.json.specs.Find.{get}
 use Rattle.json.specs.Json.{Json}
 use Rattle.serde_json.specs.Data.{Members, depth, object}
 use Rattle.serde_json.specs.Written.{members_have_float}
@@ -16,10 +17,11 @@ use Rattle.shapes.specs.declared.props.PropFault.TheVariants as prop
 use Rattle.reading.specs.Fault.{here, under}
 use Rattle.reading.specs.FaultLists.Found.{pairs_of}
 use Rattle.reading.specs.Info.{depth_faults}
-use Rattle.attributes.specs.Attributes.{counted, properties_members}
-use Rattle.attributes.specs.Refusals.{attributes_faults, members_faults, named_id_faults, number_faults, own_id_faults, refuses}
+use Rattle.attributes.specs.Attributes.{counted, id_source, properties_members}
+use Rattle.attributes.specs.Refusals.{attributes_faults, id_faults, members_faults, named_id_faults, number_faults, own_id_faults, refuses}
 use Rattle.attributes.specs.Values.{has_beyond, members_of, members_reals}
 use Rattle.attributes.specs.declared.rules.AttributeRules.{AttributeRules}
+use Rattle.attributes.specs.declared.rules.Reals.{Reals}
 use Rattle.attributes.proofs.Whole.{no_float_among}
 
 none_before : (xs ys : List Pair) → xs ++ ys ≡ [] → xs ≡ []
@@ -58,6 +60,38 @@ pub none_of_properties : (r : AttributeRules) (i p : Option Json) → attributes
 none_of_properties r i p e =
     let within = members_faults r p (named_id_faults r.id r.reals p) (properties_members p) in
     none_under (name (codes "properties")) within (none_behind (own_id_faults r.id r.reals i) (under (name (codes "properties")) within) e)
+
+-- where the id has no faults, the lists of its faults are empty
+id_has_none : (o : Option (Bor (List ℕ))) (rule : Reals) (i p : Option Json) → id_faults (is_some o) rule (id_source o i p) ≡ []
+    → (own_id_faults o rule i ≡ []) × (named_id_faults o rule p ≡ [])
+id_has_none None rule i p e = (ap (under (name (codes "id"))) e, refl)
+id_has_none (Some property) rule i p e = (refl, ap (under (name property.now)) e)
+
+-- a feature has no faults where its id and its properties have none
+pub none_of_either : (r : AttributeRules) (i p : Option Json) → id_faults (is_some r.id) r.reals (id_source r.id i p) ≡ []
+    → ((named : List Pair) → members_faults r p named (properties_members p) ≡ named) → attributes_faults r i p ≡ []
+none_of_either r i p id members =
+    let parts = id_has_none r.id r.reals i p id in
+    let named = named_id_faults r.id r.reals p in
+    ap (λ own. own ++ under (name (codes "properties")) (members_faults r p named (properties_members p))) parts.0 ∙ ap (under (name (codes "properties"))) (members named ∙ parts.1)
+
+none_of_named : (r : AttributeRules) (p : Option Json) (named : List Pair) (o : Option json.Members) → members_faults r p named o ≡ [] → named ≡ []
+none_of_named r p named None e = absurd (cc)
+none_of_named r p named (Some ms) e =
+    none_behind (depth_faults (object (members_of r.reals r.scales.now ms))) named
+    (none_behind (number_faults r p (members_reals r.reals r.scales.now ms)) (depth_faults (object (members_of r.reals r.scales.now ms)) ++ named) e)
+
+id_none_at : (o : Option (Bor (List ℕ))) (rule : Reals) (i p : Option Json) → own_id_faults o rule i ≡ [] → named_id_faults o rule p ≡ []
+    → id_faults (is_some o) rule (id_source o i p) ≡ []
+id_none_at None rule i p own named = none_under (name (codes "id")) (id_faults false rule i) own
+id_none_at (Some property) rule i p own named = none_under (name property.now) (id_faults true rule (option_and_then (get property.now) p)) named
+
+-- faults of the id are faults of the feature
+pub none_of_id : (r : AttributeRules) (i p : Option Json) → attributes_faults r i p ≡ [] → id_faults (is_some r.id) r.reals (id_source r.id i p) ≡ []
+none_of_id r i p e =
+    let within = members_faults r p (named_id_faults r.id r.reals p) (properties_members p) in
+    id_none_at r.id r.reals i p (none_before (own_id_faults r.id r.reals i) (under (name (codes "properties")) within) e)
+    (none_of_named r p (named_id_faults r.id r.reals p) (properties_members p) (none_of_properties r i p e))
 
 positive_at : (most a b : ℕ) → 0 < most → min a most ≡ min (0 + b) most → nat_lt 0 a ≡ nat_lt 0 b
 positive_at most zero zero some e = refl

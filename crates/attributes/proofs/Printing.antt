@@ -29,15 +29,12 @@ module _ (numeric : List ℕ → Bool) (scales : List Scale) where
       ∙ ap (λ t. text ++ t) (append_assoc comma (key ++ 58 ∷ value) rest ∙ ap (λ t. comma ++ t) (append_assoc key (58 ∷ value) rest))
 
   -- one member more
-  pub one_more : (text new printed : List ℕ) (later : Bool) (k : List ℕ) (d : Data) (ms all : Members)
-      → IsBehind numeric scales text later (member k d ms) all → (has_float d ≡ false → printed ≡ value_back (numeric k) (places_of scales k) d)
-      → new ≡ text ++ (comma_if later ++ (quoted k ++ 58 ∷ printed)) → IsBehind numeric scales new true ms all
-  one_more text new printed later k d ms all before value made whole =
+  pub one_more : (text new : List ℕ) (later : Bool) (k : List ℕ) (d : Data) (ms all : Members) → IsBehind numeric scales text later (member k d ms) all
+      → (has_float d ≡ false → new ≡ text ++ (comma_if later ++ (quoted k ++ 58 ∷ value_back (numeric k) (places_of scales k) d))) → IsBehind numeric scales new true ms all
+  one_more text new later k d ms all before made whole =
       let given = before whole in
       let parts = or_parts (has_float d) (members_have_float ms) given.0 in
-      let here : new ≡ text ++ (comma_if later ++ (quoted k ++ 58 ∷ value_back (numeric k) (places_of scales k) d)) =
-      made ∙ ap (λ v. text ++ (comma_if later ++ (quoted k ++ 58 ∷ v))) (value parts.0) in
-      (parts.1, joined text new (comma_if later) (quoted k) (value_back (numeric k) (places_of scales k) d) (members_back numeric scales true ms) here ∙ given.1)
+      (parts.1, joined text new (comma_if later) (quoted k) (value_back (numeric k) (places_of scales k) d) (members_back numeric scales true ms) (made parts.0) ∙ given.1)
 
 -- before the first member
 pub begins : (numeric : List ℕ → Bool) (scales : List Scale) (text : List ℕ) (rest all : Members) → text ≡ 123 ∷ [] → rest ≡ all → IsBehind numeric scales text false rest all

@@ -5,7 +5,7 @@ ghost use Rattle.serde_json.specs.View.{members_view, number_view, view};
 ghost use Rattle.serde_json.specs.Written.{comma_if, has_float, members_have_float};
 ghost use Rattle.shapes.specs.Parts.{properties_text};
 ghost use Rattle.std.specs.BTreeMap.{get_by_text};
-ghost use Rattle.std.specs.Prelude.{◌≡◌, ◌++◌, ◌∷◌, false, IfOk, is_some, OnOk, string_bytes};
+ghost use Rattle.std.specs.Prelude.{◌≡◌, ◌++◌, ◌∷◌, [], false, IfOk, is_some, OnOk, string_bytes};
 
 use crate::decimals::is_decimal;
 use crate::rules::Scale;
@@ -49,14 +49,9 @@ fn value_text(
     }
 }
 
-fn push_member(
-    alloc: Global,
-    text: &mut String,
-    later: bool,
-    name: &str,
-    value: &str,
-) -> Result<(), OutOfMemory>
-    ensures { OnOk result (string_bytes text.new ≡ string_bytes text.old ++ (comma_if later ++ (quoted name.now ++ 58 ∷ value.now))) }
+// A member's name, in quotes and with a colon, behind a comma where members are before it.
+fn push_name(alloc: Global, text: &mut String, later: bool, name: &str) -> Result<(), OutOfMemory>
+    ensures { OnOk result (string_bytes text.new ≡ string_bytes text.old ++ (comma_if later ++ (quoted name.now ++ (58 ∷ [])))) }
 {
     let name = Spelled::new(alloc, name)?;
     if later {
@@ -64,7 +59,23 @@ fn push_member(
     }
     text.push_str(name.spelling())?;
     text.push_str(":")?;
-    text.push_str(value)?;
+    Ok(())
+}
+
+fn push_member(
+    alloc: Global,
+    text: &mut String,
+    later: bool,
+    is_numeric: bool,
+    places: Option<u32>,
+    name: &str,
+    value: &Value,
+) -> Result<(), OutOfMemory>
+    ensures { OnOk result (has_float (view value.now) ≡ false → string_bytes text.new ≡ string_bytes text.old ++ (comma_if later ++ (quoted name.now ++ 58 ∷ value_back is_numeric places (view value.now)))) }
+{
+    push_name(alloc, text, later, name)?;
+    let printed = value_text(alloc, is_numeric, places, value)?;
+    text.push_str(&printed)?;
     Ok(())
 }
 
@@ -80,8 +91,8 @@ fn members_text(
     let mut later = false;
     for (name, value) in members.iter() {
         let is_numeric = numbers.contains_key(name.as_str());
-        let printed = value_text(alloc, is_numeric, places_of(scales, name), value)?;
-        push_member(alloc, &mut text, later, name, &printed)?;
+        let places = places_of(scales, name);
+        push_member(alloc, &mut text, later, is_numeric, places, name, value)?;
         later = true;
     }
     text.push_str("}")?;

@@ -23,12 +23,13 @@ loop-name-preserved c =
     let d = view c.in-Some.value.now in
     let all = members_view c.args.members.now.entries in
     let flag : c.contains_key-is_numeric.result ≡ numeric k = c.contains_key-is_numeric.ensures ∙ ap numeric c.as_str.ensures.value in
-    let places : c.places_of.result ≡ places_of scales k = c.places_of.ensures ∙ ap (places_of scales) c.deref.ensures in
-    one_more numeric scales text (string_bytes c.push_member.new.text) (string_bytes c.in_ok-printed.printed) later k d (members_view c.next.new.self) all
+    let places : c.places_of-places.result ≡ places_of scales k = c.places_of-places.ensures ∙ ap (places_of scales) c.deref.ensures in
+    one_more numeric scales text (string_bytes c.push_member.new.text) later k d (members_view c.next.new.self) all
     (subst (λ es. IsBehind numeric scales text later (members_view es) all) c.in-Some.ensures.steps c.loop-name.invariant)
-    (λ whole. c.in_ok-printed.ensures whole ∙ ap (λ b. value_back b c.places_of.result d) flag ∙ ap (λ o. value_back (numeric k) o d) places)
-    (c.in_ok-push_member.ensures ∙ ap (λ n. text ++ (comma_if later ++ (quoted n ++ 58 ∷ c.deref-in-loop-name-2.result.now))) c.deref-in-loop-name.ensures
-    ∙ ap (λ v. text ++ (comma_if later ++ (quoted k ++ 58 ∷ v))) c.deref-in-loop-name-2.ensures)
+    (λ whole. c.in_ok-push_member.ensures whole
+    ∙ ap (λ n. text ++ (comma_if later ++ (quoted n ++ 58 ∷ value_back c.contains_key-is_numeric.result c.places_of-places.result d))) c.deref-in-loop-name.ensures
+    ∙ ap (λ b. text ++ (comma_if later ++ (quoted k ++ 58 ∷ value_back b c.places_of-places.result d))) flag
+    ∙ ap (λ o. text ++ (comma_if later ++ (quoted k ++ 58 ∷ value_back (numeric k) o d))) places)
 
 pub returns : goal.returns
 returns c =

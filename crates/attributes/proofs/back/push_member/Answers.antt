@@ -1,25 +1,18 @@
-use Rattle.std.proofs.Common.{◌≡◌, ◌∙◌, ◌++◌, ◌∷◌, [], ap, append_assoc, append-nil, string_bytes, sym}
+use Rattle.std.proofs.Common.{◌∙◌, ◌++◌, ◌∷◌, [], ap, append_assoc, string_bytes}
 use Rattle.json.specs.Print.{quoted}
+use Rattle.serde_json.specs.View.{view}
 use Rattle.serde_json.specs.Written.{comma_if}
-use Rattle.shapes.specs.Spelling.{spelling_of}
+use Rattle.attributes.specs.Back.{value_back}
 use Rattle.attributes.proofs.back.push_member.Goals as goal
-use Rattle.attributes.proofs.back.push_member.Goals.{else-later, then-later+in_ok-push_str}
 
 pub returns : goal.returns
-returns c =
+returns c whole =
     let text = string_bytes c.args.text.now in
     let comma = comma_if c.args.later in
     let name = quoted c.args.name.now in
-    let value = c.args.value.now in
-    let first : string_bytes c.if-later.text ≡ text ++ comma =
-    elim c.if-later.branch [
-      then-later+in_ok-push_str w ↦ ap string_bytes w.text-is ∙ w.in_ok-push_str.ensures.bytes ∙ ap (λ b. text ++ comma_if b) (sym w.if-later.true)
-    | else-later w ↦ ap string_bytes w.text-is ∙ sym (append-nil text) ∙ ap (λ b. text ++ comma_if b) (sym w.if-later.false)
-    ] in
-    let second : string_bytes c.push_str-2.new.self ≡ (text ++ comma) ++ name =
-    c.in_ok-push_str-2.ensures.bytes ∙ ap (λ t. t ++ c.spelling.result.now) first ∙ ap (λ n. (text ++ comma) ++ n) (c.spelling.ensures ∙ ap spelling_of c.in_ok-name.ensures) in
-    c.in_ok-push_str-4.ensures.bytes
-    ∙ ap (λ t. t ++ value) (c.in_ok-push_str-3.ensures.bytes ∙ ap (λ t. t ++ (58 ∷ [])) second)
-    ∙ append_assoc ((text ++ comma) ++ name) (58 ∷ []) value
-    ∙ append_assoc (text ++ comma) name (58 ∷ value)
-    ∙ append_assoc text comma (name ++ 58 ∷ value)
+    let value = value_back c.args.is_numeric c.args.places (view c.args.value.now) in
+    c.in_ok-push_str.ensures.bytes
+    ∙ ap (λ v. string_bytes c.push_name.new.text ++ v) (c.deref.ensures ∙ c.in_ok-printed.ensures whole)
+    ∙ ap (λ t. t ++ value) c.in_ok-push_name.ensures
+    ∙ append_assoc text (comma ++ (name ++ 58 ∷ [])) value
+    ∙ ap (λ t. text ++ t) (append_assoc comma (name ++ 58 ∷ []) value ∙ ap (λ t. comma ++ t) (append_assoc name (58 ∷ []) value))

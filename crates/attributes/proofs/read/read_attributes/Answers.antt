@@ -3,7 +3,7 @@ use Rattle.attributes.specs.Attributes.{id_reals, id_source, members_or_none, se
 use Rattle.attributes.specs.Refusals.{named_id_faults}
 use Rattle.attributes.specs.Values.{members_reals}
 use Rattle.attributes.specs.declared.info.Unread.TheVariants.{Faulty}
-use Rattle.attributes.proofs.Judging.{none_of_properties, total}
+use Rattle.attributes.proofs.Judging.{none_of_either, none_of_properties, total}
 use Rattle.attributes.proofs.read.read_attributes.Goals as goal
 
 pub returns-in-Err-clause-refused : goal.returns-in-Err-clause-refused
@@ -23,3 +23,6 @@ returns-in-Ok-clause-made c =
       properties = c.in-Ok.ensures.made;
       reals = total c.read_properties.new.reals c.read_id.new.reals (id_reals r.reals (id_source r.id i p)) (members_reals r.reals r.scales.now (members_or_none p)) c.in_ok-id.ensures.reals c.in-Ok.ensures.reals;
     }
+
+pub returns-in-Ok-clause-ok : goal.returns-in-Ok-clause-ok
+returns-in-Ok-clause-ok c = none_of_either c.args.rules.now (seen_member c.args.id) (seen_member c.args.properties) c.in_ok-id.ensures.ok c.in-Ok.ensures.ok
