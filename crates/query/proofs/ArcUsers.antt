@@ -1,20 +1,24 @@
 -- The users of arcs in order, and which of them are between two places of it.
-use Rattle.std.proofs.Common.{◌≡◌, ◌<◌, ◌≤◌, ◌==◌, ℕ, zero, suc, Bool, true, false, cond, List, [], ◌∷◌, ◌++◌, length, get_or, take, drop, inl, inr, refl, sym, ap, ◌∙◌, subst, arith, append-nil}
-use Rattle.std.specs.Cmp.{unsigned_Decides}
+use Rattle.std.proofs.Common.{◌≡◌, ◌<◌, ◌≤◌, ◌+◌, ◌==◌, ℕ, zero, suc, Bool, true, false, cond, List, [], ◌∷◌, ◌++◌, length, get_or, take, drop, inl, inr, refl, sym, ap, ◌∙◌, subst, arith, append-nil}
+use Rattle.std.specs.Cmp.{ranks, unsigned_Decides}
 use Rattle.std.specs.List.Sorted.{IsNonDecreasingBy, IsPartitionPoint, IsPartitionedBy, IsPermutation, IsSorted}
+use Rattle.std.specs.Ordering.{MatchOrdering, is_lt, nat_cmp, ordering_then}
 use Rattle.std.specs.Prelude.{filter, not, map as map_list}
+use Rattle.std.specs.declared.cmp.Ordering.{Ordering}
+use Rattle.std.specs.declared.cmp.Ordering.TheVariants.{Less, Equal, Greater}
 use Rattle.std.proofs.Math.Dec.{leb, ltb}
 use Rattle.std.proofs.lemmas.Bool.Decides.{leb_tells}
 use Rattle.std.proofs.lemmas.List.{take-append-drop}
-use Rattle.std.proofs.lemmas.List.Elements.{filter-append}
-use Rattle.std.proofs.lemmas.List.Sorted.{IsNonDecreasingBy-drop, IsPartitionedBy-leb, IsPartitionedBy-ltb, IsPermutation-sym}
-use Rattle.lines.proofs.SortedLists.{Has-permutation, Up, up_from_sorted}
+use Rattle.std.proofs.lemmas.List.Elements.{filter-append, filter_passes}
+use Rattle.std.proofs.lemmas.List.Kept.{IsSortedBy-filter}
+use Rattle.std.proofs.lemmas.List.Sorted.{IsNonDecreasingBy-drop, IsNonDecreasingBy-from_sort, IsPartitionedBy-leb, IsPartitionedBy-ltb, IsPermutation-sym, ranks_by}
+use Rattle.lines.proofs.SortedLists.{Has-permutation}
 use Rattle.theory.specs.Lists.{Has}
 use Rattle.theory.proofs.ListsOfLists.{map_has}
 use Rattle.query.specs.ArcUsers.{AreInOrder, AreUsersOf, user_cmp, user_of, users_of}
 use Rattle.query.specs.declared.arc_users.ArcUser.{ArcUser}
 use Rattle.query.specs.declared.uses.Use.{Use}
-use Rattle.query.proofs.Orders.{first_most, next_most, user_total}
+use Rattle.query.proofs.Orders.{user_total}
 use Rattle.query.proofs.Spanning.{same_number}
 
 -- what a test keeps of a list
@@ -46,47 +50,28 @@ module _ {X : Type 0} (test : X → Bool) where
   kept_none [] h = refl
   kept_none (x ∷ xs) h = ap (λ b. cond b (x ∷ filter test xs) (filter test xs)) (h x (inl refl)) ∙ kept_none xs (λ y k. h y (inr k))
 
--- a number does not fall along a list
-abbrev Slopes : {X : Type 0} → (X → ℕ) → List X → Type 0
-Slopes n [] = Unit {0}
-Slopes {X} n (x ∷ xs) = ((y : X) → Has y xs → n x ≤ n y) × Slopes n xs
+-- what is not before by its first number, and where that is the same, by what comes next
+first_least : (a r : Ordering) → is_lt (ordering_then a r) ≡ false → is_lt a ≡ false
+first_least Less r e = cc
+first_least Equal r e = refl
+first_least Greater r e = refl
 
-has_index : {X : Type 0} (xs : List X) (j : ℕ) (d : X) → j < length xs → Has (get_or xs j d) xs
-has_index [] j d h = absurd (omega (arith, h))
-has_index (x ∷ xs) zero d h = inl refl
-has_index (x ∷ xs) (suc j) d h = inr (has_index xs j d (omega (arith, h)))
-
-by_index : {X : Type 0} (n : X → ℕ) (xs : List X) → Slopes n xs → IsNonDecreasingBy n xs
-by_index n [] s i j d h k = absurd (omega (arith, k))
-by_index n (x ∷ xs) s zero zero d h k = omega arith
-by_index n (x ∷ xs) s zero (suc j) d h k = s.0 (get_or xs j d) (has_index xs j d (omega (arith, k)))
-by_index n (x ∷ xs) s (suc i) zero d h k = absurd (omega (arith, h))
-by_index n (x ∷ xs) s (suc i) (suc j) d h k = by_index n xs s.1 i j d (omega (arith, h)) (omega (arith, k))
-
-arcs_slope : (vs : List ArcUser) → Up user_cmp vs → Slopes (λ v. v.arc) vs
-arcs_slope [] u = tt
-arcs_slope (v ∷ vs) u = ((λ w h. first_most v.arc w.arc _ (u.0 w h)), arcs_slope vs u.1)
-
-classes_slope : (k : ℕ) (vs : List ArcUser) → Up user_cmp vs → Slopes (λ v. v.class) (users_of k vs)
-classes_slope k [] u = tt
-classes_slope k (v ∷ vs) u = go (v.arc == k) refl (classes_slope k vs u.1)
+next_least : (a b : ℕ) (r : Ordering) → a ≡ b → is_lt (ordering_then (nat_cmp a b) r) ≡ false → is_lt r ≡ false
+next_least a b r f e = go (nat_cmp a b) (ranks a b) e
   where
-    go : (b : Bool) → (v.arc == k) ≡ b → Slopes (λ v. v.class) (users_of k vs) → Slopes (λ v. v.class) (cond b (v ∷ users_of k vs) (users_of k vs))
-    go false e s = s
-    go true e s = (
-      (λ w h.
-          let (there, here) = kept_from (λ v. v.arc == k) vs w h in
-          let one : v.arc ≡ w.arc = same_number v.arc k true e refl ∙ sym (same_number w.arc k true here refl) in
-          first_most v.class w.class _ (next_most v.arc w.arc _ one (u.0 w there))),
-      s,
-    )
+    go : (c : Ordering) → MatchOrdering c (a < b) (a ≡ b) (b < a) → is_lt (ordering_then c r) ≡ false → is_lt r ≡ false
+    go Less h k = absurd (omega (arith, h, f))
+    go Equal h k = k
+    go Greater h k = absurd (omega (arith, h, f))
 
 pub in_order : (vs : List ArcUser) → IsSorted user_cmp vs → AreInOrder vs
-in_order vs s =
-    let up = up_from_sorted user_cmp user_total vs s in record {
-      by_arc = by_index (λ v. v.arc) vs (arcs_slope vs up);
-      by_class = λ k. by_index (λ v. v.class) (users_of k vs) (classes_slope k vs up);
-    }
+in_order vs s = record {
+  by_arc = IsNonDecreasingBy-from_sort (λ v. v.arc) vs (λ i d a b. first_least _ _ (s i d a b));
+  by_class = λ k. IsNonDecreasingBy-from_sort (λ v. v.class) (users_of k vs) (λ i d a b.
+      let one = λ (j : ℕ) (h : j < length (users_of k vs)). same_number (get_or (users_of k vs) j d).arc k true (filter_passes (λ v. v.arc == k) vs j d h) refl in
+      first_least _ _ (next_least _ _ _ (one (i + 1) b ∙ sym (one i (omega (arith, b))))
+      (IsSortedBy-filter (λ v w. is_lt (user_cmp v w)) (ranks_by user_total (λ (v : ArcUser). v)) (λ v. v.arc == k) vs s i d a b)));
+}
 
 pub are_users : (cs : List ℕ) (us : List Use) (ws vs : List ArcUser) → ws ≡ map_list (user_of cs) us → IsPermutation ws vs → AreUsersOf cs us vs
 are_users cs us ws vs e p = record {

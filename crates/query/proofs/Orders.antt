@@ -49,7 +49,7 @@ use_same u v e =
 pub use_ties : (u v : Use) → use_eq.eq-value.it u v ≡ eq_by_cmp use_cmp u v
 use_ties u v = search rules
 
--- what does not come behind by its first number is not behind, and where that is the same, nor is what comes next
+-- what does not come behind has no greater first number
 pub first_most : (a b : ℕ) (r : Ordering) → is_gt (ordering_then (nat_cmp a b) r) ≡ false → a ≤ b
 first_most a b r e = go (nat_cmp a b) (ranks a b) e
   where
@@ -57,14 +57,6 @@ first_most a b r e = go (nat_cmp a b) (ranks a b) e
     go Less h k = omega (arith, h)
     go Equal h k = omega (arith, h)
     go Greater h k = cc
-
-pub next_most : (a b : ℕ) (r : Ordering) → a ≡ b → is_gt (ordering_then (nat_cmp a b) r) ≡ false → is_gt r ≡ false
-next_most a b r f e = go (nat_cmp a b) (ranks a b) e
-  where
-    go : (c : Ordering) → MatchOrdering c (a < b) (a ≡ b) (b < a) → is_gt (ordering_then c r) ≡ false → is_gt r ≡ false
-    go Less h k = absurd (omega (arith, h, f))
-    go Equal h k = k
-    go Greater h k = absurd (omega (arith, h, f))
 
 geometry_order_same : IsAntisymmetric geometry_order.cmp-value.it
 geometry_order_same g h e = geometry_same g h (matches_eq-law g h ∙ ap is_eq e)

@@ -1,7 +1,6 @@
 //! The users of each arc, class by class.
-ghost use Rattle.query.specs.ArcUsers.{AreInOrder, AreUsersOf, user_cmp, user_of as user_at, users_of};
-ghost use Rattle.std.specs.List.Sorted.{IsPermutation, IsSorted};
-ghost use Rattle.std.specs.Prelude.{◌≡◌, IfOk, map};
+ghost use Rattle.query.specs.ArcUsers.{AreInOrder, AreUsersOf, user_of as user_at, users_of};
+ghost use Rattle.std.specs.Prelude.{◌≡◌, IfOk};
 
 use crate::uses::Use;
 use std::alloc::{AllocError, Global};
@@ -25,23 +24,6 @@ pub(crate) fn user_of(classes: &[usize], used: Use) -> ArcUser
     }
 }
 
-fn all_users(alloc: Global, uses: &[Use], classes: &[usize]) -> Result<Vec<ArcUser>, AllocError>
-    ensures { IfOk result (λ v. v.items ≡ map (user_at classes.now) uses.now) }
-{
-    let mut users = Vec::with_capacity(alloc, uses.len())?;
-    for used in uses {
-        users.push(user_of(classes, *used))?;
-    }
-    Ok(users)
-}
-
-fn sort_users(users: &mut Vec<ArcUser>)
-    ensures permutation { IsPermutation users.old.items users.new.items }
-    ensures sorted { IsSorted user_cmp users.new.items }
-{
-    users.sort_unstable();
-}
-
 /// The users by these uses, arc by arc, and for each arc class by class.
 pub(crate) fn users_by(
     alloc: Global,
@@ -51,8 +33,11 @@ pub(crate) fn users_by(
     ensures order { IfOk result (λ v. AreInOrder v.items) }
     ensures users { IfOk result (λ v. AreUsersOf classes.now uses.now v.items) }
 {
-    let mut users = all_users(alloc, uses, classes)?;
-    sort_users(&mut users);
+    let mut users = Vec::with_capacity(alloc, uses.len())?;
+    for used in uses {
+        users.push(user_of(classes, *used))?;
+    }
+    users.sort_unstable();
     Ok(users)
 }
 

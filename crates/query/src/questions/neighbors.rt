@@ -2,13 +2,11 @@
 ghost use Rattle.query.specs.ArcUsers.{AreInOrder, AreListsBy, noted, noted_all, noted_at, noted_in, others, user_of as user_at};
 ghost use Rattle.query.specs.EachOnce.{lent};
 ghost use Rattle.query.specs.Neighbors.{ListsNeighbors};
-ghost use Rattle.query.specs.Uses.{use_cmp};
 ghost use Rattle.query.specs.declared.fault.QueryFault.TheVariants.{NoLayer as MissingLayer};
 ghost use Rattle.shapes.specs.Maps.{features_at};
 ghost use Rattle.shapes.specs.Sets as set;
 ghost use Rattle.std.specs.FinMap as map;
 ghost use Rattle.std.specs.Prelude.{◌≡◌, ◌↔◌, IfOk, OnOk, Err, IsTrue, [], map as map_list, replicate};
-ghost use Rattle.theory.specs.Arcs.{AreSortedOnce};
 ghost use Rattle.topo.specs.ItsMap.{ForItsMap};
 
 use crate::arc_users::{ArcUser, of_arc, user_of, users_by};
@@ -18,14 +16,6 @@ use crate::users::uses_by;
 use crate::uses::Use;
 use std::alloc::{AllocError, Global};
 use topo::{Geom, Topology};
-
-/// Sorts uses by indexes and then by arcs, and keeps each once.
-fn sort_uses(uses: &mut Vec<Use>)
-    ensures { AreSortedOnce use_cmp uses.old.items uses.new.items }
-{
-    uses.sort_unstable();
-    uses.dedup();
-}
 
 fn empty_lists(alloc: Global, count: usize) -> Result<Vec<Vec<usize>>, AllocError>
     ensures { IfOk result (λ v. map_list (λ l. l.items) v.items ≡ replicate count []) }
@@ -111,7 +101,8 @@ pub(crate) fn lists_by(
     ensures { IfOk result (λ v. AreListsBy (lent geometries.now) classes.now (map_list (λ l. l.items) v.items)) }
 {
     let mut uses = uses_by(alloc, geometries)?;
-    sort_uses(&mut uses);
+    uses.sort_unstable();
+    uses.dedup();
     let users = users_by(alloc, &uses, classes)?;
     Ok(lists_of(alloc, geometries.len(), &uses, &users, classes)?)
 }
