@@ -6,9 +6,10 @@
 
 Tilings are kind to a program: each arc has two users, each vertex a few arcs, each ring a hundred positions. These maps are
 not: a star, a comb, many layers on one arc, features equal but for their ids, many small rings, one border that all features
-share, a ring that visits a vertex again and again; and topologies in which as many features as an arc has positions use that
-arc: as this tool writes them, cut where no junction is, in another order, with the arc twice, with a position or a member
-twice, with features that tie out of their order, and with a fault in the last feature. Such a text means far more than it says, so a command that stitches each feature takes the square of its length.
+share, also with one value, lines over one another, a ring that visits a vertex again and again; and topologies in which as
+many features as an arc has positions use that arc: as this tool writes them, cut where no junction is, in another order, with
+the arc twice, with a position or a member twice, with features that tie out of their order, and with a fault in the last
+feature. Such a text means far more than it says, so a command that stitches each feature takes the square of its length.
 
 Each row is a command on a map: its instructions at the size, by valgrind, and its peak memory above what the program takes
 for nothing, and how both grow when the size doubles. A growth above 2.3 is marked by an exclamation mark and counted, and
@@ -66,6 +67,15 @@ def one_border(size):
     return [feature("LineString", [*shared, [1 + number, 20]]) for number in range(size)]
 
 
+def one_value(size):
+    return [{**told, "properties": {"value": 1}} for told in one_border(size)]
+
+
+def over_one_another(size):
+    """Lines along one street, each a step further than the one before."""
+    return [feature("LineString", [[number + step, 0] for step in range(20)]) for number in range(size)]
+
+
 def visits(size):
     petals = [place for step in range(size) for place in ([0, 0], [1 + step, 1], [1 + step, 2])]
     return [feature("Polygon", [[*petals, [0, 0]]])]
@@ -78,7 +88,8 @@ def layers(size):
 
 
 MAPS = {"star": star, "comb": comb, "equal but for ids": equal_but_for_ids, "small rings": small_rings,
-        "one border": one_border, "a vertex visited": visits}
+        "one border": one_border, "one border, one value": one_value, "over one another": over_one_another,
+        "a vertex visited": visits}
 
 
 def zigzag(size, begin=0):
@@ -196,6 +207,8 @@ def commands(name, source, built):
     }
     if not shares_arcs(name):
         told["neighbors"] = [TOOL, "neighbors", *layer, built]
+    elif name.endswith("one value"):
+        told["neighbors --by"] = [TOOL, "neighbors", "--by", "value", *layer, built]
     if source:
         told["build"] = [TOOL, "build", *GRID, f"a={source}"]
         told["feature"] = [TOOL, "feature", *layer, built]

@@ -2,8 +2,8 @@ pub mod BodyUses
 pub mod Sides
 pub mod SortedOnce
 pub mod Orders
-pub mod Others
-pub mod Pairing
+pub mod ArcUsers
+pub mod Noting
 pub mod UsesOfBodies
 pub mod LayerFeatures
 pub mod Neighboring

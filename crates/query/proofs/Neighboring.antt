@@ -1,6 +1,5 @@
--- The lists of neighbours, from the uses and the pairs.
-use Rattle.std.proofs.Common.{◌≡◌, ◌+◌, ℕ, zero, suc, List, [], ◌∷◌, length, map, replicate, refl, sym, ap, ◌∙◌, subst, Some, slice_get, arith}
-use Rattle.std.specs.List.Sorted.{IsStrictlyIncreasing}
+-- The lists of neighbours, from the lists of those that share arcs.
+use Rattle.std.proofs.Common.{◌≡◌, ◌+◌, ℕ, zero, suc, List, [], ◌∷◌, length, map, refl, sym, ap, ◌∙◌, subst, Some, slice_get, arith}
 use Rattle.grid.specs.declared.pos.Pos.{Pos}
 use Rattle.lines.specs.Turned.{position_cmp}
 use Rattle.shapes.specs.Maps.{Layers, features_at}
@@ -8,7 +7,6 @@ use Rattle.shapes.specs.Sets as set
 use Rattle.shapes.specs.declared.feature.Feature.{Feature}
 use Rattle.chains.specs.Seen as seen_by
 use Rattle.chains.specs.Seen.{geometry_of}
-use Rattle.theory.specs.Arcs.{AreSortedOnce}
 use Rattle.theory.specs.Geometry.{JunctionOf}
 use Rattle.theory.specs.Lists.{Has}
 use Rattle.theory.specs.Topology.{Body, IsGeometryOf}
@@ -17,14 +15,11 @@ use Rattle.theory.proofs.ListsOfLists.{get_has}
 use Rattle.topo.specs.OfMap.{IsOf, body_of, item_of}
 use Rattle.topo.specs.Parts.{IsOfLayerNamed, TopologyParts}
 use Rattle.topo.specs.declared.geom.Geom.{Geom}
+use Rattle.query.specs.ArcUsers.{AreListsBy}
 use Rattle.query.specs.Neighbors.{AreNeighbors, ListsNeighbors}
-use Rattle.query.specs.Pairs.{pairs_among, pair_cmp, with_others}
-use Rattle.query.specs.Uses.{bodies_uses, use_at, use_cmp}
+use Rattle.query.specs.Uses.{bodies_uses, geometries_uses, use_at}
 use Rattle.query.specs.declared.uses.Use.{Use}
-use Rattle.query.specs.declared.questions.neighbors.IndexPair.{IndexPair}
 use Rattle.query.proofs.LayerFeatures.{pair_at, pair_back, pair_length, named_features, layer_form, features_share, OfFeature, OfFeatures}
-use Rattle.query.proofs.Others.{list_of_index, others_at, lists_length, other_paired, paired_other, others_increase}
-use Rattle.query.proofs.Pairing.{among_from, has_among, paired}
 use Rattle.query.proofs.UsesOfBodies.{bodies_from, has_bodies}
 
 pub body_at : (gs : List Geom) (i : ℕ) (b : Body Pos) → slice_get (map (λ g. body_of g.body) gs) i ≡ Some b → (g : Geom) × (slice_get gs i ≡ Some g) × (b ≡ body_of g.body)
@@ -53,12 +48,9 @@ module _ (m : Layers) (t : TopologyParts) (of : IsOf m t) (name : List ℕ) (gs 
   pub geometry_at : (i : ℕ) (f : Feature) → slice_get features i ≡ Some f → (g : Geom) × (slice_get gs i ≡ Some g) × OfOne f g
   geometry_at i f e = pair_back (IsGeometryOf position_cmp (JunctionOf (geometry_of m)) t.arcs.arcs) seen_by.item_of item_of features gs all i f e
 
-  -- the lists of indexes are as many as the features
-  pub lists_count : (ps : List IndexPair) (lists : List (List ℕ)) → lists ≡ with_others (replicate (length gs) []) ps → length lists ≡ length features
-  lists_count ps lists is =
-      ap length is
-      ∙ lists_length (length gs) ps
-      ∙ sym (pair_length (IsGeometryOf position_cmp (JunctionOf (geometry_of m)) t.arcs.arcs) seen_by.item_of item_of features gs all)
+  -- the geometries are as many as the features
+  pub features_count : length gs ≡ length features
+  features_count = sym (pair_length (IsGeometryOf position_cmp (JunctionOf (geometry_of m)) t.arcs.arcs) seen_by.item_of item_of features gs all)
 
   -- the feature at the index of a use uses its arc
   user : (u : Use) → Has u (bodies_uses 0 (map (λ g. body_of g.body) gs)) →
@@ -76,47 +68,30 @@ module _ (m : Layers) (t : TopologyParts) (of : IsOf m t) (name : List ℕ) (gs 
       subst (λ n. Has (use_at k n) (bodies_uses 0 (map (λ g. body_of g.body) gs))) e
       (has_bodies (map (λ g. body_of g.body) gs) 0 i k (body_of g.body) (at_body gs i g at) uses)
 
-  module _ (us : List Use) (ps : List IndexPair) (used : AreSortedOnce use_cmp (bodies_uses 0 (map (λ g. body_of g.body) gs)) us)
-      (pairs : AreSortedOnce pair_cmp (pairs_among us) ps) where
-    pub neighbors_from : (i j : ℕ) → Has j (others_at i ps) → AreNeighbors features i j
-    neighbors_from i j h =
-        let (p, hp, pi, pj) = other_paired i j ps h in
-        let (u, v, hu, hv, arc, pu, pv, n) = among_from us used.ascends p (pairs.only p hp) in
-        let (f, g, at, o, uses) = user u (used.only u hu) in
-        let (f', g', at', o', uses') = user v (used.only v hv) in
-        let contained = (named_features m t of name gs under).0 in
-        let key = features_share m t of f f' g g' (layer_form m name contained f (get_has features u.index f at)) (layer_form m name contained f' (get_has features v.index f' at')) o o' in
-        record {
-          apart = λ z. n (pi ∙ z ∙ sym pj);
-          one = f;
-          other = f';
-          at = subst (λ k. slice_get features k ≡ Some f) (sym pu ∙ pi) at;
-          beside = subst (λ k. slice_get features k ≡ Some f') (sym pv ∙ pj) at';
-          share = key.1 (u.arc, uses, subst (λ k. UsesArc k (body_of g'.body)) (sym arc) uses');
-        }
+  pub neighbors_from : (i j k : ℕ) → Has (use_at k i) (geometries_uses gs) → Has (use_at k j) (geometries_uses gs) → ¬ (i ≡ j) → AreNeighbors features i j
+  neighbors_from i j k hu hv n =
+      let (f, g, at, o, uses) = user (use_at k i) hu in
+      let (f', g', at', o', uses') = user (use_at k j) hv in
+      let contained = (named_features m t of name gs under).0 in
+      let key = features_share m t of f f' g g' (layer_form m name contained f (get_has features i f at)) (layer_form m name contained f' (get_has features j f' at')) o o' in
+      record { apart = n; one = f; other = f'; at = at; beside = at'; share = key.1 (k, uses, uses') }
 
-    pub from_neighbors : (i j : ℕ) → AreNeighbors features i j → Has j (others_at i ps)
-    from_neighbors i j r =
-        let (g, at, o) = geometry_at i r.one r.at in
-        let (g', at', o') = geometry_at j r.other r.beside in
-        let contained = (named_features m t of name gs under).0 in
-        let key = features_share m t of r.one r.other g g' (layer_form m name contained r.one (get_has features i r.one r.at))
-        (layer_form m name contained r.other (get_has features j r.other r.beside)) o o' in
-        let (k, uses, uses') = key.0 r.share in
-        let hu = used.there (use_at k i) (used_at i k g at uses) in
-        let hv = used.there (use_at k j) (used_at j k g' at' uses') in
-        paired_other i j ps (paired (use_at k i) (use_at k j))
-        (pairs.there (paired (use_at k i) (use_at k j)) (has_among us used.ascends (use_at k i) (use_at k j) hu hv refl r.apart)) refl refl
+  pub from_neighbors : (i j : ℕ) → AreNeighbors features i j → (k : ℕ) × Has (use_at k i) (geometries_uses gs) × Has (use_at k j) (geometries_uses gs)
+  from_neighbors i j r =
+      let (g, at, o) = geometry_at i r.one r.at in
+      let (g', at', o') = geometry_at j r.other r.beside in
+      let contained = (named_features m t of name gs under).0 in
+      let key = features_share m t of r.one r.other g g' (layer_form m name contained r.one (get_has features i r.one r.at))
+      (layer_form m name contained r.other (get_has features j r.other r.beside)) o o' in
+      let (k, uses, uses') = key.0 r.share in
+      (k, used_at i k g at uses, used_at j k g' at' uses')
 
-    pub lists_neighbors : (lists : List (List ℕ)) → lists ≡ with_others (replicate (length gs) []) ps → ListsNeighbors features lists
-    lists_neighbors lists is = record {
-      each = lists_count ps lists is;
-      ascend = λ i js e. subst IsStrictlyIncreasing (sym (held i js e)) (others_increase i ps pairs.ascends);
-      exact = λ i js e j. (
-        (λ h. neighbors_from i j (subst (λ w. Has j w) (held i js e) h)),
-        (λ r. subst (λ w. Has j w) (sym (held i js e)) (from_neighbors i j r)),
-      );
-    }
-      where
-        held : (i : ℕ) (js : List ℕ) → slice_get lists i ≡ Some js → js ≡ others_at i ps
-        held = list_of_index (length gs) ps lists is
+  pub lists_neighbors : (lists : List (List ℕ)) → AreListsBy gs [] lists → ListsNeighbors features lists
+  lists_neighbors lists h = record {
+    each = h.each ∙ features_count;
+    ascend = h.ascend;
+    exact = λ i js e j. (
+      (λ k. let s = (h.exact i js e j).0 k in neighbors_from i j s.arc s.one s.other s.unlike),
+      (λ r. let (k, one, other) = from_neighbors i j r in (h.exact i js e j).1 (record { arc = k; one = one; other = other; unlike = r.apart })),
+    );
+  }

@@ -182,7 +182,7 @@ told_one x y P (to, from) = go (x == y) refl
     go true e = ((λ h. to (same_number x y true e refl)), λ p. refl)
     go false e = ((λ h. absurd cc), λ p. absurd (other_number x y false e refl (from p)))
 
-pub told_apart : (x y : ℕ) (P : Type 0) → (x ≡ y) ↔ P → IsTrue (not (x == y)) ↔ (¬ P)
+told_apart : (x y : ℕ) (P : Type 0) → (x ≡ y) ↔ P → IsTrue (not (x == y)) ↔ (¬ P)
 told_apart x y P (to, from) = go (x == y) refl
   where
     go : (t : Bool) → (x == y) ≡ t → IsTrue (not t) ↔ (¬ P)

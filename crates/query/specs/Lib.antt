@@ -3,7 +3,7 @@ pub mod Stops
 pub mod Uses
 pub mod EachOnce
 pub mod Neighbors
-pub mod Pairs
+pub mod ArcUsers
 pub mod Spans
 pub mod Selecting
 pub mod Parting

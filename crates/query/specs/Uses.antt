@@ -35,6 +35,6 @@ bodies_uses p (b ∷ bs) = body_uses p b ++ bodies_uses (p + 1) bs
 abbrev pub geometries_uses : List Geom → List Use
 geometries_uses gs = bodies_uses 0 (map_list (λ g. body_of g.body) gs)
 
--- by arcs, then by indexes
+-- by indexes, then by arcs
 abbrev pub use_cmp : Use → Use → Ordering
-use_cmp u v = ordering_then (nat_cmp u.arc v.arc) (nat_cmp u.index v.index)
+use_cmp u v = ordering_then (nat_cmp u.index v.index) (nat_cmp u.arc v.arc)

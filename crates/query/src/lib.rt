@@ -3,6 +3,7 @@
 //! text, which is written with no memory. And how many arcs and geometries there are.
 #![tactic(auto)]
 
+mod arc_users;
 mod distinct;
 mod edges;
 mod ends;

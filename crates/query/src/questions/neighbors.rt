@@ -1,95 +1,21 @@
 //! Which features of a layer are neighbours: those that share a segment, so an arc.
+ghost use Rattle.query.specs.ArcUsers.{AreInOrder, AreListsBy, noted, noted_all, noted_at, noted_in, others, user_of as user_at};
+ghost use Rattle.query.specs.EachOnce.{lent};
 ghost use Rattle.query.specs.Neighbors.{ListsNeighbors};
-ghost use Rattle.query.specs.Pairs.{ArePairsOf, pairs_behind, pairs_among, pair_cmp, with_other, with_others};
-ghost use Rattle.query.specs.Uses.{geometries_uses, use_cmp};
 ghost use Rattle.query.specs.declared.fault.QueryFault.TheVariants.{NoLayer as MissingLayer};
 ghost use Rattle.shapes.specs.Maps.{features_at};
 ghost use Rattle.shapes.specs.Sets as set;
 ghost use Rattle.std.specs.FinMap as map;
-ghost use Rattle.std.specs.Prelude.{◌≡◌, ◌↔◌, ◌++◌, IfOk, OnOk, Err, IsTrue, [], map as map_list, replicate};
-ghost use Rattle.theory.specs.Arcs.{AreSortedOnce};
+ghost use Rattle.std.specs.Prelude.{◌≡◌, ◌↔◌, IfOk, OnOk, Err, IsTrue, [], map as map_list, replicate};
 ghost use Rattle.topo.specs.ItsMap.{ForItsMap};
 
+use crate::arc_users::{ArcUser, of_arc, user_of, users_by};
+use crate::distinct::add_geometries;
 use crate::fault::QueryFault;
-use crate::uses::{Use, add_geometries};
+use crate::users::uses_by;
+use crate::uses::Use;
 use std::alloc::{AllocError, Global};
 use topo::{Geom, Topology};
-
-/// Two indexes whose features share an arc.
-#[derive(Clone, Copy, PartialEq, Eq, PartialOrd, Ord, Debug)]
-pub(crate) struct IndexPair {
-    pub(crate) index: usize,
-    pub(crate) other: usize,
-}
-
-/// Which features use which arc, index by index.
-fn all_uses(alloc: Global, geometries: &[Geom]) -> Result<Vec<Use>, AllocError>
-    ensures { IfOk result (λ v. v.items ≡ geometries_uses geometries.now) }
-{
-    let mut uses = Vec::new(alloc);
-    add_geometries(&mut uses, geometries)?;
-    Ok(uses)
-}
-
-/// Sorts uses by arcs and then by indexes, and keeps each once.
-fn sort_uses(uses: &mut Vec<Use>)
-    ensures { AreSortedOnce use_cmp uses.old.items uses.new.items }
-{
-    uses.sort_unstable();
-    uses.dedup();
-}
-
-/// Pairs a use with the others of its arc, which are behind it.
-fn add_pairs(pairs: &mut Vec<IndexPair>, user: Use, behind: &[Use]) -> Result<(), AllocError>
-    ensures { OnOk result (pairs.new.items ≡ pairs.old.items ++ pairs_behind user behind.now) }
-{
-    for other in behind {
-        if other.arc != user.arc {
-            return Ok(());
-        }
-        pairs.push(IndexPair {
-            index: user.index,
-            other: other.index,
-        })?;
-        pairs.push(IndexPair {
-            index: other.index,
-            other: user.index,
-        })?;
-    }
-    Ok(())
-}
-
-/// The pairs of indexes whose features share an arc.
-fn all_pairs(alloc: Global, uses: &[Use]) -> Result<Vec<IndexPair>, AllocError>
-    ensures { IfOk result (λ v. v.items ≡ pairs_among uses.now) }
-{
-    let mut pairs = Vec::new(alloc);
-    let mut left = uses;
-    while let Some((user, behind)) = left.split_first() {
-        add_pairs(&mut pairs, *user, behind)?;
-        left = behind;
-    }
-    Ok(pairs)
-}
-
-/// Sorts pairs by indexes and then by the other indexes, and keeps each once.
-fn sort_pairs(pairs: &mut Vec<IndexPair>)
-    ensures { AreSortedOnce pair_cmp pairs.old.items pairs.new.items }
-{
-    pairs.sort_unstable();
-    pairs.dedup();
-}
-
-/// The pairs of indexes of geometries that share an arc, in order, each once.
-pub(crate) fn pairs_of(alloc: Global, geometries: &[Geom]) -> Result<Vec<IndexPair>, AllocError>
-    ensures { IfOk result (λ v. ArePairsOf geometries.now v.items) }
-{
-    let mut uses = all_uses(alloc, geometries)?;
-    sort_uses(&mut uses);
-    let mut pairs = all_pairs(alloc, &uses)?;
-    sort_pairs(&mut pairs);
-    Ok(pairs)
-}
 
 fn empty_lists(alloc: Global, count: usize) -> Result<Vec<Vec<usize>>, AllocError>
     ensures { IfOk result (λ v. map_list (λ l. l.items) v.items ≡ replicate count []) }
@@ -101,29 +27,84 @@ fn empty_lists(alloc: Global, count: usize) -> Result<Vec<Vec<usize>>, AllocErro
     Ok(lists)
 }
 
-/// Puts the other index of a pair at the end of the list of its index.
-fn add_other(lists: &mut Vec<Vec<usize>>, pair: IndexPair) -> Result<(), AllocError>
-    ensures { OnOk result (map_list (λ l. l.items) lists.new.items ≡ with_other (map_list (λ l. l.items) lists.old.items) pair) }
+/// Puts an index at the end of a list, unless it is there.
+fn note(list: &mut Vec<usize>, index: usize) -> Result<(), AllocError>
+    ensures { OnOk result (list.new.items ≡ noted list.old.items index) }
 {
-    match lists.get_mut(pair.index) {
-        Some(list) => Ok(list.push(pair.other)?),
+    match list.last() {
+        Some(last) if *last == index => Ok(()),
+        _ => Ok(list.push(index)?),
+    }
+}
+
+/// Notes an index in the list of another one.
+fn note_at(lists: &mut Vec<Vec<usize>>, other: usize, index: usize) -> Result<(), AllocError>
+    ensures { OnOk result (map_list (λ l. l.items) lists.new.items ≡ noted_at index (map_list (λ l. l.items) lists.old.items) other) }
+{
+    match lists.get_mut(other) {
+        Some(list) => Ok(note(list, index)?),
         None => Ok(()),
     }
 }
 
-/// For each of so many indexes the other indexes of its pairs, in the order of the pairs.
-pub(crate) fn lists_of(
+/// Notes an index in the lists of users.
+fn note_in(lists: &mut Vec<Vec<usize>>, users: &[ArcUser], index: usize) -> Result<(), AllocError>
+    ensures { OnOk result (map_list (λ l. l.items) lists.new.items ≡ noted_in index (map_list (λ l. l.items) lists.old.items) users.now) }
+{
+    for user in users {
+        note_at(lists, user.index, index)?;
+    }
+    Ok(())
+}
+
+/// Notes the index of a user in the lists of its arc's users that are of other classes.
+fn note_user(
+    lists: &mut Vec<Vec<usize>>,
+    users: &[ArcUser],
+    user: ArcUser,
+) -> Result<(), AllocError>
+    requires { AreInOrder users.now }
+    ensures { OnOk result (map_list (λ l. l.items) lists.new.items ≡ noted_in user.index (map_list (λ l. l.items) lists.old.items) (others user users.now)) }
+{
+    let here = of_arc(users, user.arc);
+    let (before, from) = here.split_at(here.partition_point(|other| other.class < user.class));
+    let (_, behind) = from.split_at(from.partition_point(|other| other.class <= user.class));
+    note_in(lists, before, user.index)?;
+    Ok(note_in(lists, behind, user.index)?)
+}
+
+/// For each of so many indexes the others with which it shares an arc, and that are of other classes.
+fn lists_of(
     alloc: Global,
     count: usize,
-    pairs: &[IndexPair],
+    uses: &[Use],
+    users: &[ArcUser],
+    classes: &[usize],
 ) -> Result<Vec<Vec<usize>>, AllocError>
-    ensures { IfOk result (λ v. map_list (λ l. l.items) v.items ≡ with_others (replicate count []) pairs.now) }
+    requires { AreInOrder users.now }
+    ensures { IfOk result (λ v. map_list (λ l. l.items) v.items ≡ noted_all classes.now users.now (replicate count []) uses.now) }
 {
     let mut lists = empty_lists(alloc, count)?;
-    for pair in pairs {
-        add_other(&mut lists, *pair)?;
+    for used in uses {
+        note_user(&mut lists, users, user_of(classes, *used))?;
     }
     Ok(lists)
+}
+
+/// For each of the geometries, in order, the indexes of the others that share an arc with it and are of other classes,
+/// ascending. A geometry without a class is a class of its own.
+pub(crate) fn lists_by(
+    alloc: Global,
+    geometries: &[&Geom],
+    classes: &[usize],
+) -> Result<Vec<Vec<usize>>, AllocError>
+    ensures { IfOk result (λ v. AreListsBy (lent geometries.now) classes.now (map_list (λ l. l.items) v.items)) }
+{
+    let mut uses = uses_by(alloc, geometries)?;
+    uses.sort_unstable();
+    uses.dedup();
+    let users = users_by(alloc, &uses, classes)?;
+    Ok(lists_of(alloc, geometries.len(), &uses, &users, classes)?)
 }
 
 /// For each feature of a layer, in order, the indexes of the other features of the layer that share a
@@ -142,6 +123,7 @@ pub fn neighbors(
     let Some(geometries) = topology.geometries(layer) else {
         return Err(QueryFault::NoLayer);
     };
-    let pairs = pairs_of(alloc, geometries)?;
-    Ok(lists_of(alloc, geometries.len(), &pairs)?)
+    let mut noted = Vec::new(alloc);
+    add_geometries(&mut noted, geometries)?;
+    Ok(lists_by(alloc, &noted, &[])?)
 }

@@ -1,42 +1,18 @@
 //! Which features of a layer are neighbours, and differ in a property.
-ghost use Rattle.query.specs.ByProperty.{AreClasses, ListsNeighborsBy, values_of};
-ghost use Rattle.query.specs.Pairs.{are_unlike};
+ghost use Rattle.query.specs.ByProperty.{ListsNeighborsBy};
 ghost use Rattle.query.specs.declared.fault.QueryFault.TheVariants.{NoLayer as MissingLayer};
 ghost use Rattle.shapes.specs.Maps.{features_at};
 ghost use Rattle.shapes.specs.Sets as set;
 ghost use Rattle.std.specs.FinMap as map;
-ghost use Rattle.std.specs.Prelude.{◌≡◌, ◌↔◌, IfOk, Err, IsTrue, filter, get_or, map as map_list};
+ghost use Rattle.std.specs.Prelude.{◌≡◌, ◌↔◌, IfOk, Err, IsTrue, map as map_list};
 ghost use Rattle.topo.specs.ItsMap.{ForItsMap};
 
 use crate::distinct::add_geometries;
 use crate::fault::QueryFault;
 use crate::properties::classes_of;
-use crate::questions::neighbors::{IndexPair, lists_of, pairs_of};
-use std::alloc::{AllocError, Global};
-use topo::{Geom, Topology};
-
-/// For each of a layer's geometries a number, which two have in common where they have one value of the property.
-fn classes_in(alloc: Global, geometries: &[Geom], property: &str) -> Result<Vec<usize>, AllocError>
-    ensures { IfOk result (λ v. AreClasses (values_of property.now geometries.now) v.items) }
-{
-    let mut noted = Vec::new(alloc);
-    add_geometries(&mut noted, geometries)?;
-    classes_of(alloc, &noted, property)
-}
-
-/// The class at an index.
-fn class_of(classes: &[usize], index: usize) -> usize
-    ensures { result ≡ get_or classes.now index 0 }
-{
-    classes.get(index).copied().unwrap_or(0)
-}
-
-/// Keeps the pairs whose indexes have two classes.
-fn keep_unlike(pairs: &mut Vec<IndexPair>, classes: &[usize])
-    ensures { pairs.new.items ≡ filter (are_unlike classes.now) pairs.old.items }
-{
-    pairs.retain(|pair| class_of(classes, pair.index) != class_of(classes, pair.other));
-}
+use crate::questions::neighbors::lists_by;
+use std::alloc::Global;
+use topo::Topology;
 
 /// For each feature of a layer, in order, the indexes of the other features of the layer that share a segment with it and
 /// whose values of the property differ from its own, ascending. A feature without the property differs from every other
@@ -56,8 +32,8 @@ pub fn neighbors_by(
     let Some(geometries) = topology.geometries(layer) else {
         return Err(QueryFault::NoLayer);
     };
-    let classes = classes_in(alloc, geometries, property)?;
-    let mut pairs = pairs_of(alloc, geometries)?;
-    keep_unlike(&mut pairs, &classes);
-    Ok(lists_of(alloc, geometries.len(), &pairs)?)
+    let mut noted = Vec::new(alloc);
+    add_geometries(&mut noted, geometries)?;
+    let classes = classes_of(alloc, &noted, property)?;
+    Ok(lists_by(alloc, &noted, &classes)?)
 }

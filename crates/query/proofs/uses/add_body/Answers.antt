@@ -1,4 +1,4 @@
-use Rattle.std.proofs.Common.{◌≡◌, ◌++◌, append_assoc, append-nil, ap, sym, ◌∙◌}
+use Rattle.std.proofs.Common.{◌++◌, append_assoc, append-nil, ap, sym, ◌∙◌}
 use Rattle.theory.specs.Lists.{gathered}
 use Rattle.query.specs.Uses.{refs_uses}
 use Rattle.query.proofs.BodyUses.{uses_of_lists}

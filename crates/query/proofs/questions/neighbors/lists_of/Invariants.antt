@@ -1,7 +1,8 @@
-use Rattle.std.proofs.Common.{◌≡◌, map, replicate, drop, []}
-use Rattle.query.specs.Pairs.{with_others}
+use Rattle.std.proofs.Common.{◌≡◌, drop, map, replicate, []}
+use Rattle.query.specs.ArcUsers.{noted_all}
 use Rattle.query.proofs.questions.neighbors.lists_of.Given as goal
 
-abbrev pub invariant-loop-pair : goal.invariant-loop-pair
-invariant-loop-pair l =
-    with_others (map (λ v. v.items) l.lists.items) (drop l.pair-index l.fn.pairs) ≡ with_others (replicate l.fn.count []) l.fn.pairs
+abbrev pub invariant-loop-used : goal.invariant-loop-used
+invariant-loop-used l =
+    noted_all l.fn.classes l.fn.users (map (λ v. v.items) l.lists.items) (drop l.used-index l.fn.uses)
+    ≡ noted_all l.fn.classes l.fn.users (replicate l.fn.count []) l.fn.uses

@@ -1,5 +1,6 @@
-use Rattle.std.proofs.Common.{[], ap, ◌∙◌, replicate, length}
-use Rattle.query.specs.Pairs.{with_others}
+use Rattle.std.proofs.Common.{[], ap, map, subst, ◌++◌, ◌≡◌, ◌∙◌}
+use Rattle.query.specs.ArcUsers.{AreListsBy}
+use Rattle.query.specs.EachOnce.{lent}
 use Rattle.query.proofs.Neighboring.{lists_neighbors}
 use Rattle.query.proofs.LayerFeatures.{layer_found, layer_missing, layer_stands, not_named, named_features}
 use Rattle.query.proofs.questions.neighbors.neighbors.Goals as goal
@@ -7,17 +8,18 @@ use Rattle.query.proofs.questions.neighbors.neighbors.Goals as goal
 pub returns-in_default-clause-layer : goal.returns-in_default-clause-layer
 returns-in_default-clause-layer c = λ m of. layer_missing _ (not_named m c.args.topology.now of c.args.layer.now c.in_default.ensures.none)
 
-pub returns-in_err-pairs-clause-layer : goal.returns-in_err-pairs-clause-layer
-returns-in_err-pairs-clause-layer c = λ m of. layer_stands c.from_residual.result _ c.from_residual.ensures.1 (named_features m c.args.topology.now of c.args.layer.now c.in-Some.geometries.now c.in-Some.ensures.found).0
+pub returns-in_err-add_geometries-clause-layer : goal.returns-in_err-add_geometries-clause-layer
+returns-in_err-add_geometries-clause-layer c = λ m of. layer_stands c.from_residual.result _ c.from_residual.ensures.1 (named_features m c.args.topology.now of c.args.layer.now c.in-Some.geometries.now c.in-Some.ensures.found).0
 
-pub returns-in_err-lists_of-clause-layer : goal.returns-in_err-lists_of-clause-layer
-returns-in_err-lists_of-clause-layer c = λ m of. layer_stands c.from_residual-in_err-lists_of.result _ c.from_residual-in_err-lists_of.ensures.1 (named_features m c.args.topology.now of c.args.layer.now c.in-Some.geometries.now c.in-Some.ensures.found).0
+pub returns-in_err-lists_by-clause-layer : goal.returns-in_err-lists_by-clause-layer
+returns-in_err-lists_by-clause-layer c = λ m of. layer_stands c.from_residual-in_err-lists_by.result _ c.from_residual-in_err-lists_by.ensures.1 (named_features m c.args.topology.now of c.args.layer.now c.in-Some.geometries.now c.in-Some.ensures.found).0
 
 pub returns-clause-layer : goal.returns-clause-layer
 returns-clause-layer c = λ m of. layer_found _ _ (named_features m c.args.topology.now of c.args.layer.now c.in-Some.geometries.now c.in-Some.ensures.found).0
 
 pub returns-clause-neighbors : goal.returns-clause-neighbors
 returns-clause-neighbors c = λ m of.
-    lists_neighbors m c.args.topology.now of c.args.layer.now c.in-Some.geometries.now c.in-Some.ensures.found c.in_ok-pairs.ensures.uses c.in_ok-pairs.pairs.items
-    c.in_ok-pairs.ensures.used c.in_ok-pairs.ensures.paired
-    _ (c.in_ok-lists_of.ensures ∙ ap (with_others (replicate (length c.in-Some.geometries.now) [])) c.deref.ensures.value)
+    let gs = c.in-Some.geometries.now in
+    let all : lent c.add_geometries.new.noted.items ≡ gs = c.in_ok-add_geometries.ensures ∙ ap (λ w. lent w ++ gs) c.new-noted.ensures.items in
+    lists_neighbors m c.args.topology.now of c.args.layer.now gs c.in-Some.ensures.found (map (λ l. l.items) c.in_ok-lists_by.field-0.items)
+    (subst (λ w. AreListsBy w [] (map (λ l. l.items) c.in_ok-lists_by.field-0.items)) (ap lent c.deref.ensures.value ∙ all) c.in_ok-lists_by.ensures)

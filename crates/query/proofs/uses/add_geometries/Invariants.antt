@@ -1,8 +1,0 @@
-use Rattle.std.proofs.Common.{◌≡◌, ◌++◌, drop, map}
-use Rattle.topo.specs.OfMap.{body_of}
-use Rattle.query.specs.Uses.{bodies_uses, geometries_uses}
-use Rattle.query.proofs.uses.add_geometries.Given as goal
-
-abbrev pub invariant-loop-index : goal.invariant-loop-index
-invariant-loop-index l =
-    l.uses.items ++ bodies_uses l.index (map (λ g. body_of g.body) (drop l.index l.fn.geometries)) ≡ l.fn.uses.items ++ geometries_uses l.fn.geometries
