@@ -3,7 +3,7 @@ pub mod Sides
 pub mod SortedOnce
 pub mod Orders
 pub mod ArcUsers
-pub mod Noting
+pub mod IndexLists
 pub mod UsesOfBodies
 pub mod LayerFeatures
 pub mod Neighboring

@@ -44,22 +44,22 @@ is_number None x = false
 is_number (Some y) x = y == x
 
 -- the index at the end of the list, unless it is there
-abbrev pub noted : List ℕ → ℕ → List ℕ
-noted l i = cond (is_number (slice_get l (length l - 1)) i) l (l ++ (i ∷ []))
+abbrev pub with_index : List ℕ → ℕ → List ℕ
+with_index l i = cond (is_number (slice_get l (length l - 1)) i) l (l ++ (i ∷ []))
 
--- the index noted in the list of another one
-abbrev pub noted_at : ℕ → List (List ℕ) → ℕ → List (List ℕ)
-noted_at i ls j = set ls j (noted (get_or ls j []) i)
+-- the index added to the list of another one
+abbrev pub with_index_at : ℕ → List (List ℕ) → ℕ → List (List ℕ)
+with_index_at i ls j = set ls j (with_index (get_or ls j []) i)
 
 -- and in the lists of users
-abbrev pub noted_in : ℕ → List (List ℕ) → List ArcUser → List (List ℕ)
-noted_in i ls [] = ls
-noted_in i ls (v ∷ vs) = noted_in i (noted_at i ls v.index) vs
+abbrev pub with_index_in : ℕ → List (List ℕ) → List ArcUser → List (List ℕ)
+with_index_in i ls [] = ls
+with_index_in i ls (v ∷ vs) = with_index_in i (with_index_at i ls v.index) vs
 
--- the index of each use noted in the lists of its arc's users that are of other classes
-abbrev pub noted_all : List ℕ → List ArcUser → List (List ℕ) → List Use → List (List ℕ)
-noted_all cs vs ls [] = ls
-noted_all cs vs ls (u ∷ us) = noted_all cs vs (noted_in u.index ls (others (user_of cs u) vs)) us
+-- the index of each use added to the lists of its arc's users that are of other classes
+abbrev pub with_indexes : List ℕ → List ArcUser → List (List ℕ) → List Use → List (List ℕ)
+with_indexes cs vs ls [] = ls
+with_indexes cs vs ls (u ∷ us) = with_indexes cs vs (with_index_in u.index ls (others (user_of cs u) vs)) us
 
 -- the geometries at two indexes use one arc, and are of two classes
 pub record ShareUnlike (gs : List Geom) (cs : List ℕ) (i j : ℕ) : Type 0 where

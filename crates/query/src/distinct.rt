@@ -8,13 +8,13 @@ use topo::{Geom, Layer};
 
 /// Puts references to geometries at the end.
 pub(crate) fn add_geometries<'a>(
-    noted: &mut Vec<&'a Geom>,
+    found: &mut Vec<&'a Geom>,
     geometries: &'a [Geom],
 ) -> Result<(), AllocError>
-    ensures { OnOk result (lent noted.new.items ≡ lent noted.old.items ++ geometries.now) }
+    ensures { OnOk result (lent found.new.items ≡ lent found.old.items ++ geometries.now) }
 {
     for geometry in geometries {
-        noted.push(geometry)?;
+        found.push(geometry)?;
     }
     Ok(())
 }
@@ -23,11 +23,11 @@ pub(crate) fn add_geometries<'a>(
 fn geometries_in<'a>(alloc: Global, layers: &'a [Layer]) -> Result<Vec<&'a Geom>, AllocError>
     ensures { IfOk result (λ v. lent v.items ≡ gathered (λ l. l.geometries) layers.now) }
 {
-    let mut noted = Vec::new(alloc);
+    let mut found = Vec::new(alloc);
     for layer in layers {
-        add_geometries(&mut noted, layer.geometries())?;
+        add_geometries(&mut found, layer.geometries())?;
     }
-    Ok(noted)
+    Ok(found)
 }
 
 /// Sorts geometries, so that equal ones are together, and keeps each once.

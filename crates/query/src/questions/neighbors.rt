@@ -1,5 +1,5 @@
 //! Which features of a layer are neighbours: those that share a segment, so an arc.
-ghost use Rattle.query.specs.ArcUsers.{AreInOrder, AreListsBy, noted, noted_all, noted_at, noted_in, others, user_of as user_at};
+ghost use Rattle.query.specs.ArcUsers.{AreInOrder, AreListsBy, with_index, with_indexes, with_index_at, with_index_in, others, user_of as user_at};
 ghost use Rattle.query.specs.EachOnce.{lent};
 ghost use Rattle.query.specs.Neighbors.{ListsNeighbors};
 ghost use Rattle.query.specs.declared.fault.QueryFault.TheVariants.{NoLayer as MissingLayer};
@@ -28,8 +28,8 @@ fn empty_lists(alloc: Global, count: usize) -> Result<Vec<Vec<usize>>, AllocErro
 }
 
 /// Puts an index at the end of a list, unless it is there.
-fn note(list: &mut Vec<usize>, index: usize) -> Result<(), AllocError>
-    ensures { OnOk result (list.new.items ≡ noted list.old.items index) }
+fn add_once(list: &mut Vec<usize>, index: usize) -> Result<(), AllocError>
+    ensures { OnOk result (list.new.items ≡ with_index list.old.items index) }
 {
     match list.last() {
         Some(last) if *last == index => Ok(()),
@@ -37,40 +37,44 @@ fn note(list: &mut Vec<usize>, index: usize) -> Result<(), AllocError>
     }
 }
 
-/// Notes an index in the list of another one.
-fn note_at(lists: &mut Vec<Vec<usize>>, other: usize, index: usize) -> Result<(), AllocError>
-    ensures { OnOk result (map_list (λ l. l.items) lists.new.items ≡ noted_at index (map_list (λ l. l.items) lists.old.items) other) }
+/// Adds an index to the list of another one.
+fn add_to_list(lists: &mut Vec<Vec<usize>>, other: usize, index: usize) -> Result<(), AllocError>
+    ensures { OnOk result (map_list (λ l. l.items) lists.new.items ≡ with_index_at index (map_list (λ l. l.items) lists.old.items) other) }
 {
     match lists.get_mut(other) {
-        Some(list) => Ok(note(list, index)?),
+        Some(list) => Ok(add_once(list, index)?),
         None => Ok(()),
     }
 }
 
-/// Notes an index in the lists of users.
-fn note_in(lists: &mut Vec<Vec<usize>>, users: &[ArcUser], index: usize) -> Result<(), AllocError>
-    ensures { OnOk result (map_list (λ l. l.items) lists.new.items ≡ noted_in index (map_list (λ l. l.items) lists.old.items) users.now) }
+/// Adds an index to the lists of users.
+fn add_to_lists(
+    lists: &mut Vec<Vec<usize>>,
+    users: &[ArcUser],
+    index: usize,
+) -> Result<(), AllocError>
+    ensures { OnOk result (map_list (λ l. l.items) lists.new.items ≡ with_index_in index (map_list (λ l. l.items) lists.old.items) users.now) }
 {
     for user in users {
-        note_at(lists, user.index, index)?;
+        add_to_list(lists, user.index, index)?;
     }
     Ok(())
 }
 
-/// Notes the index of a user in the lists of its arc's users that are of other classes.
-fn note_user(
+/// Adds the index of a user to the lists of its arc's users that are of other classes.
+fn add_index_of(
     lists: &mut Vec<Vec<usize>>,
     users: &[ArcUser],
     user: ArcUser,
 ) -> Result<(), AllocError>
     requires { AreInOrder users.now }
-    ensures { OnOk result (map_list (λ l. l.items) lists.new.items ≡ noted_in user.index (map_list (λ l. l.items) lists.old.items) (others user users.now)) }
+    ensures { OnOk result (map_list (λ l. l.items) lists.new.items ≡ with_index_in user.index (map_list (λ l. l.items) lists.old.items) (others user users.now)) }
 {
     let here = of_arc(users, user.arc);
     let (before, from) = here.split_at(here.partition_point(|other| other.class < user.class));
     let (_, behind) = from.split_at(from.partition_point(|other| other.class <= user.class));
-    note_in(lists, before, user.index)?;
-    Ok(note_in(lists, behind, user.index)?)
+    add_to_lists(lists, before, user.index)?;
+    Ok(add_to_lists(lists, behind, user.index)?)
 }
 
 /// For each of so many indexes the others with which it shares an arc, and that are of other classes.
@@ -82,11 +86,11 @@ fn lists_of(
     classes: &[usize],
 ) -> Result<Vec<Vec<usize>>, AllocError>
     requires { AreInOrder users.now }
-    ensures { IfOk result (λ v. map_list (λ l. l.items) v.items ≡ noted_all classes.now users.now (replicate count []) uses.now) }
+    ensures { IfOk result (λ v. map_list (λ l. l.items) v.items ≡ with_indexes classes.now users.now (replicate count []) uses.now) }
 {
     let mut lists = empty_lists(alloc, count)?;
     for used in uses {
-        note_user(&mut lists, users, user_of(classes, *used))?;
+        add_index_of(&mut lists, users, user_of(classes, *used))?;
     }
     Ok(lists)
 }
@@ -123,7 +127,7 @@ pub fn neighbors(
     let Some(geometries) = topology.geometries(layer) else {
         return Err(QueryFault::NoLayer);
     };
-    let mut noted = Vec::new(alloc);
-    add_geometries(&mut noted, geometries)?;
-    Ok(lists_by(alloc, &noted, &[])?)
+    let mut found = Vec::new(alloc);
+    add_geometries(&mut found, geometries)?;
+    Ok(lists_by(alloc, &found, &[])?)
 }

@@ -32,8 +32,8 @@ pub fn neighbors_by(
     let Some(geometries) = topology.geometries(layer) else {
         return Err(QueryFault::NoLayer);
     };
-    let mut noted = Vec::new(alloc);
-    add_geometries(&mut noted, geometries)?;
-    let classes = classes_of(alloc, &noted, property)?;
-    Ok(lists_by(alloc, &noted, &classes)?)
+    let mut found = Vec::new(alloc);
+    add_geometries(&mut found, geometries)?;
+    let classes = classes_of(alloc, &found, property)?;
+    Ok(lists_by(alloc, &found, &classes)?)
 }

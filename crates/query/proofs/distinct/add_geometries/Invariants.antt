@@ -3,4 +3,4 @@ use Rattle.query.specs.EachOnce.{lent}
 use Rattle.query.proofs.distinct.add_geometries.Given as goal
 
 abbrev pub invariant-loop-geometry : goal.invariant-loop-geometry
-invariant-loop-geometry l = lent l.noted.items ++ drop l.geometry-index l.fn.geometries ≡ lent l.fn.noted.items ++ l.fn.geometries
+invariant-loop-geometry l = lent l.found.items ++ drop l.geometry-index l.fn.geometries ≡ lent l.fn.found.items ++ l.fn.geometries

@@ -5,4 +5,4 @@ use Rattle.query.proofs.distinct.geometries_in.Given as goal
 
 abbrev pub invariant-loop-layer : goal.invariant-loop-layer
 invariant-loop-layer l =
-    lent l.noted.items ++ gathered (λ k. k.geometries) (drop l.layer-index l.fn.layers) ≡ gathered (λ k. k.geometries) l.fn.layers
+    lent l.found.items ++ gathered (λ k. k.geometries) (drop l.layer-index l.fn.layers) ≡ gathered (λ k. k.geometries) l.fn.layers

@@ -1,11 +1,11 @@
 use Rattle.std.proofs.Common.{[], ap, length, replicate, subst, sym, ◌∙◌}
 use Rattle.std.proofs.lemmas.List.{length-map}
 use Rattle.theory.specs.Arcs.{AreSortedOnce}
-use Rattle.query.specs.ArcUsers.{AreUsersOf, noted_all}
+use Rattle.query.specs.ArcUsers.{AreUsersOf, with_indexes}
 use Rattle.query.specs.EachOnce.{lent}
 use Rattle.query.specs.Uses.{use_cmp}
 use Rattle.query.specs.contracts.uses.UsePartialEq.TheImpl as use_eq
-use Rattle.query.proofs.Noting.{lists_told}
+use Rattle.query.proofs.IndexLists.{lists_told}
 use Rattle.query.proofs.Orders.{use_total, use_same, use_ties}
 use Rattle.query.proofs.SortedOnce.{sorted_once}
 use Rattle.query.proofs.questions.neighbors.lists_by.Goals as goal
@@ -19,6 +19,6 @@ returns c =
     lists_told (lent c.args.geometries.now) classes uses users (subst (λ w. AreSortedOnce use_cmp w uses) c.in_ok-uses.ensures once)
     (subst (λ w. AreUsersOf classes w users) c.deref.ensures.value c.in_ok-users.ensures.users) _
     (c.in_ok-lists_of.ensures
-    ∙ ap (λ w. noted_all classes w (replicate (length c.args.geometries.now) []) c.deref-2.result.now) c.deref-3.ensures.value
-    ∙ ap (noted_all classes users (replicate (length c.args.geometries.now) [])) c.deref-2.ensures.value
-    ∙ ap (λ n. noted_all classes users (replicate n []) uses) (sym (length-map c.args.geometries.now (λ g. g.now))))
+    ∙ ap (λ w. with_indexes classes w (replicate (length c.args.geometries.now) []) c.deref-2.result.now) c.deref-3.ensures.value
+    ∙ ap (with_indexes classes users (replicate (length c.args.geometries.now) [])) c.deref-2.ensures.value
+    ∙ ap (λ n. with_indexes classes users (replicate n []) uses) (sym (length-map c.args.geometries.now (λ g. g.now))))

@@ -3,11 +3,11 @@ use Rattle.std.specs.List.Sorted.{IsNonDecreasingBy}
 use Rattle.std.specs.Prelude.{filter, not}
 use Rattle.std.proofs.lemmas.List.Sorted.{IsPartitionPoint-from_clause}
 use Rattle.std.proofs.Math.Dec.{leb, ltb}
-use Rattle.query.specs.ArcUsers.{noted_in}
+use Rattle.query.specs.ArcUsers.{with_index_in}
 use Rattle.query.specs.declared.arc_users.ArcUser.{ArcUser}
 use Rattle.query.proofs.ArcUsers.{beside_places}
-use Rattle.query.proofs.Noting.{noted_both}
-use Rattle.query.proofs.questions.neighbors.note_user.Goals as goal
+use Rattle.query.proofs.IndexLists.{index_in_both}
+use Rattle.query.proofs.questions.neighbors.add_index_of.Goals as goal
 
 pub returns : goal.returns
 returns c =
@@ -16,10 +16,10 @@ returns c =
     let index = c.args.user.index in
     let behind = c.split_at-2.result.1.now in
     let old = map (λ l. l.items) c.args.lists.now.items in
-    c.in_ok-note_in-2.ensures
-    ∙ ap (λ w. noted_in index w behind) c.in_ok-note_in.ensures
-    ∙ noted_both index old c.split_at.result.0.now behind
-    ∙ ap (noted_in index old)
+    c.in_ok-add_to_lists-2.ensures
+    ∙ ap (λ w. with_index_in index w behind) c.in_ok-add_to_lists.ensures
+    ∙ index_in_both index old c.split_at.result.0.now behind
+    ∙ ap (with_index_in index old)
     (ap (λ l. l ++ behind) c.split_at.ensures.front
     ∙ ap (λ l. take c.partition_point.result here ++ l) c.split_at-2.ensures.back
     ∙ beside_places (λ (u : ArcUser). u.class) class c.partition_point.result c.partition_point-2.result here c.split_at.result.1.now

@@ -1,4 +1,4 @@
--- What lists hold once indexes are noted in them.
+-- What lists hold once indexes are added to them.
 use Rattle.std.proofs.Common.{◌≡◌, ◌<◌, ◌≤◌, ◌+◌, ◌-◌, ◌==◌, ℕ, zero, suc, Bool, true, false, cond, List, [], ◌∷◌, ◌++◌, length, get_or, set, map, replicate, ◌⊎◌, inl, inr, refl, sym, ap, ◌∙◌, subst, Option, Some, None, slice_get, arith}
 use Rattle.std.specs.Cmp.{unsigned_Decides}
 use Rattle.std.specs.List.Sorted.{IsStrictlyIncreasing}
@@ -9,7 +9,7 @@ use Rattle.theory.specs.Arcs.{Ascends, AreSortedOnce}
 use Rattle.theory.specs.Lists.{Has}
 use Rattle.theory.proofs.Lists.{Has-append, Has-append_left, Has-append_right}
 use Rattle.topo.specs.declared.geom.Geom.{Geom}
-use Rattle.query.specs.ArcUsers.{AreListsBy, AreUsersOf, ShareUnlike, class_at, is_number, noted, noted_all, noted_at, noted_in, others, user_of, users_of}
+use Rattle.query.specs.ArcUsers.{AreListsBy, AreUsersOf, ShareUnlike, class_at, is_number, with_index, with_indexes, with_index_at, with_index_in, others, user_of, users_of}
 use Rattle.query.specs.Uses.{geometries_uses, use_at, use_cmp}
 use Rattle.query.specs.declared.arc_users.ArcUser.{ArcUser}
 use Rattle.query.specs.declared.uses.Use.{Use}
@@ -22,16 +22,16 @@ get_map f [] i d e h = absurd (omega arith)
 get_map f (l ∷ ls) zero d e h = refl
 get_map f (l ∷ ls) (suc i) d e h = get_map f ls i d e (omega (arith, h))
 
--- an index noted in the list of another one
-pub put_noted : {A : Type 0} (f : A → List ℕ) (ls : List A) (i x : ℕ) (old new : A) → i < length ls → old ≡ get_or ls i old → f new ≡ noted (f old) x →
-    map f (set ls i new) ≡ noted_at x (map f ls) i
-put_noted f ls i x old new h e n =
+-- an index added to the list of another one
+pub put_index : {A : Type 0} (f : A → List ℕ) (ls : List A) (i x : ℕ) (old new : A) → i < length ls → old ≡ get_or ls i old → f new ≡ with_index (f old) x →
+    map f (set ls i new) ≡ with_index_at x (map f ls) i
+put_index f ls i x old new h e n =
     map-set f ls i new
-    ∙ ap (set (map f ls) i) (n ∙ ap (λ l. noted l x) (ap f e ∙ sym (get_map f ls i old [] h)))
+    ∙ ap (set (map f ls) i) (n ∙ ap (λ l. with_index l x) (ap f e ∙ sym (get_map f ls i old [] h)))
 
-pub noted_both : (i : ℕ) (ls : List (List ℕ)) (vs ws : List ArcUser) → noted_in i (noted_in i ls vs) ws ≡ noted_in i ls (vs ++ ws)
-noted_both i ls [] ws = refl
-noted_both i ls (v ∷ vs) ws = noted_both i (noted_at i ls v.index) vs ws
+pub index_in_both : (i : ℕ) (ls : List (List ℕ)) (vs ws : List ArcUser) → with_index_in i (with_index_in i ls vs) ws ≡ with_index_in i ls (vs ++ ws)
+index_in_both i ls [] ws = refl
+index_in_both i ls (v ∷ vs) ws = index_in_both i (with_index_at i ls v.index) vs ws
 
 -- each number is below all that follow
 abbrev Climbs : List ℕ → Type 0
@@ -79,7 +79,7 @@ record IsHeld (P : ℕ → Type 0) (top : ℕ) (l : List ℕ) : Type 0 where
   only : (y : ℕ) → Has y l → P y
   there : (y : ℕ) → P y → Has y l
 
-held_more : (P : ℕ → Type 0) (top i : ℕ) (l : List ℕ) → IsHeld P top l → top ≤ i → IsHeld (λ y. P y ⊎ (y ≡ i)) i (noted l i)
+held_more : (P : ℕ → Type 0) (top i : ℕ) (l : List ℕ) → IsHeld P top l → top ≤ i → IsHeld (λ y. P y ⊎ (y ≡ i)) i (with_index l i)
 held_more P top i l h up =
     test (is_number (slice_get l (length l - 1)) i) refl (λ e. last_had l i (told (slice_get l (length l - 1)) e))
     (λ e k.
@@ -136,31 +136,31 @@ module _ (n : ℕ) where
   all_same : (S R : ℕ → ℕ → Type 0) (top i : ℕ) (ls : List (List ℕ)) → AreHeld S top ls → top ≤ i → ((a y : ℕ) → S a y → R a y) → ((a y : ℕ) → R a y → S a y) → AreHeld R i ls
   all_same S R top i ls h up to back = record { count = h.count; at = λ a m. held_same (S a) (R a) top i (get_or ls a []) (h.at a m) up (to a) (back a) }
 
-  held_at : (S : ℕ → ℕ → Type 0) (top i j : ℕ) (ls : List (List ℕ)) → AreHeld S top ls → top ≤ i → AreHeld (λ a y. S a y ⊎ ((j ≡ a) × (y ≡ i))) i (noted_at i ls j)
-  held_at S top i j ls h up = record { count = length-set ls j (noted (get_or ls j []) i) ∙ h.count; at = λ a m. go a m (j == a) refl }
+  held_at : (S : ℕ → ℕ → Type 0) (top i j : ℕ) (ls : List (List ℕ)) → AreHeld S top ls → top ≤ i → AreHeld (λ a y. S a y ⊎ ((j ≡ a) × (y ≡ i))) i (with_index_at i ls j)
+  held_at S top i j ls h up = record { count = length-set ls j (with_index (get_or ls j []) i) ∙ h.count; at = λ a m. go a m (j == a) refl }
     where
-      go : (a : ℕ) → a < n → (t : Bool) → (j == a) ≡ t → IsHeld (λ y. S a y ⊎ ((j ≡ a) × (y ≡ i))) i (get_or (noted_at i ls j) a [])
+      go : (a : ℕ) → a < n → (t : Bool) → (j == a) ≡ t → IsHeld (λ y. S a y ⊎ ((j ≡ a) × (y ≡ i))) i (get_or (with_index_at i ls j) a [])
       go a m true e =
           let q : j ≡ a = same_number j a true e refl in
-          subst (λ k. IsHeld (λ y. S a y ⊎ ((j ≡ a) × (y ≡ i))) i (get_or (set ls k (noted (get_or ls k []) i)) a [])) (sym q)
-          (subst (IsHeld (λ y. S a y ⊎ ((j ≡ a) × (y ≡ i))) i) (sym (get_or-set_same ls a (noted (get_or ls a []) i) [] (subst (λ k. a < k) (sym h.count) m)))
-          (held_same (λ y. S a y ⊎ (y ≡ i)) (λ y. S a y ⊎ ((j ≡ a) × (y ≡ i))) i i (noted (get_or ls a []) i) (held_more (S a) top i (get_or ls a []) (h.at a m) up) (omega arith)
+          subst (λ k. IsHeld (λ y. S a y ⊎ ((j ≡ a) × (y ≡ i))) i (get_or (set ls k (with_index (get_or ls k []) i)) a [])) (sym q)
+          (subst (IsHeld (λ y. S a y ⊎ ((j ≡ a) × (y ≡ i))) i) (sym (get_or-set_same ls a (with_index (get_or ls a []) i) [] (subst (λ k. a < k) (sym h.count) m)))
+          (held_same (λ y. S a y ⊎ (y ≡ i)) (λ y. S a y ⊎ ((j ≡ a) × (y ≡ i))) i i (with_index (get_or ls a []) i) (held_more (S a) top i (get_or ls a []) (h.at a m) up) (omega arith)
           (λ y k. elim k [ inl s ↦ inl s | inr f ↦ inr (q, f) ]) (λ y k. elim k [ inl s ↦ inl s | inr f ↦ inr f.1 ])))
       go a m false e =
           let d = other_number j a false e refl in
-          subst (IsHeld (λ y. S a y ⊎ ((j ≡ a) × (y ≡ i))) i) (sym (get_or-set_other ls j a (noted (get_or ls j []) i) [] (λ k. d (sym k))))
+          subst (IsHeld (λ y. S a y ⊎ ((j ≡ a) × (y ≡ i))) i) (sym (get_or-set_other ls j a (with_index (get_or ls j []) i) [] (λ k. d (sym k))))
           (held_same (S a) (λ y. S a y ⊎ ((j ≡ a) × (y ≡ i))) top i (get_or ls a []) (h.at a m) up (λ y s. inl s) (λ y k. elim k [ inl s ↦ s | inr f ↦ absurd (d f.0) ]))
 
   -- one of the users is at the index
   abbrev At : List ArcUser → ℕ → Type 0
   At vs a = (v : ArcUser) × Has v vs × (v.index ≡ a)
 
-  held_in : (S : ℕ → ℕ → Type 0) (top i : ℕ) (ls : List (List ℕ)) (vs : List ArcUser) → AreHeld S top ls → top ≤ i → AreHeld (λ a y. S a y ⊎ ((y ≡ i) × At vs a)) i (noted_in i ls vs)
+  held_in : (S : ℕ → ℕ → Type 0) (top i : ℕ) (ls : List (List ℕ)) (vs : List ArcUser) → AreHeld S top ls → top ≤ i → AreHeld (λ a y. S a y ⊎ ((y ≡ i) × At vs a)) i (with_index_in i ls vs)
   held_in S top i ls [] h up = all_same S (λ a y. S a y ⊎ ((y ≡ i) × At [] a)) top i ls h up (λ a y s. inl s) (λ a y k. elim k [ inl s ↦ s | inr f ↦ absurd f.1.1 ])
   held_in S top i ls (v ∷ vs) h up =
       let T = λ (a y : ℕ). S a y ⊎ ((v.index ≡ a) × (y ≡ i)) in
-      all_same (λ a y. T a y ⊎ ((y ≡ i) × At vs a)) (λ a y. S a y ⊎ ((y ≡ i) × At (v ∷ vs) a)) i i (noted_in i (noted_at i ls v.index) vs)
-      (held_in T i i (noted_at i ls v.index) vs (held_at S top i v.index ls h up) (omega arith)) (omega arith)
+      all_same (λ a y. T a y ⊎ ((y ≡ i) × At vs a)) (λ a y. S a y ⊎ ((y ≡ i) × At (v ∷ vs) a)) i i (with_index_in i (with_index_at i ls v.index) vs)
+      (held_in T i i (with_index_at i ls v.index) vs (held_at S top i v.index ls h up) (omega arith)) (omega arith)
       (λ a y k. elim k [ inl t ↦ elim t [ inl s ↦ inl s | inr f ↦ inr (f.1, (v, inl refl, f.0)) ] | inr f ↦ inr (f.0, (f.1.0, inr f.1.1, f.1.2)) ])
       (λ a y k. elim k [ inl s ↦ inl (inl s) | inr f ↦ back a y f.0 f.1.0 f.1.1 f.1.2 ])
     where
@@ -174,14 +174,14 @@ module _ (n : ℕ) where
     Meets us a y = (u : Use) × Has u us × (y ≡ u.index) × At (others (user_of cs u) vs) a
 
     held_all : (S : ℕ → ℕ → Type 0) (top : ℕ) (ls : List (List ℕ)) (us : List Use) → AreHeld S top ls → Ascends use_cmp us → ((u : Use) → Has u us → top ≤ u.index) →
-        (end : ℕ) × AreHeld (λ a y. S a y ⊎ Meets us a y) end (noted_all cs vs ls us)
+        (end : ℕ) × AreHeld (λ a y. S a y ⊎ Meets us a y) end (with_indexes cs vs ls us)
     held_all S top ls [] h r up = (top, all_same S (λ a y. S a y ⊎ Meets [] a y) top top ls h (omega arith) (λ a y s. inl s) (λ a y k. elim k [ inl s ↦ s | inr f ↦ absurd f.1 ]))
     held_all S top ls (u ∷ us) h r up =
         let ws = others (user_of cs u) vs in
         let T = λ (a y : ℕ). S a y ⊎ ((y ≡ u.index) × At ws a) in
-        let (end, held) = held_all T u.index (noted_in u.index ls ws) us (held_in S top u.index ls ws h (up u (inl refl))) r.1 (λ w k. first_most u.index w.index _ (ap is_gt (r.0 w k))) in (
+        let (end, held) = held_all T u.index (with_index_in u.index ls ws) us (held_in S top u.index ls ws h (up u (inl refl))) r.1 (λ w k. first_most u.index w.index _ (ap is_gt (r.0 w k))) in (
           end,
-          all_same (λ a y. T a y ⊎ Meets us a y) (λ a y. S a y ⊎ Meets (u ∷ us) a y) end end (noted_all cs vs (noted_in u.index ls ws) us) held (omega arith)
+          all_same (λ a y. T a y ⊎ Meets us a y) (λ a y. S a y ⊎ Meets (u ∷ us) a y) end end (with_indexes cs vs (with_index_in u.index ls ws) us) held (omega arith)
               (λ a y k. elim k [ inl t ↦ elim t [ inl s ↦ inl s | inr f ↦ inr (u, inl refl, f.0, f.1) ] | inr f ↦ inr (f.0, inr f.1, f.2, f.3) ])
               (λ a y k. elim k [ inl s ↦ inl (inl s) | inr f ↦ back a y f.0 f.1 f.2 f.3 ]),
         )
@@ -227,7 +227,7 @@ module _ (gs : List Geom) (cs : List ℕ) (us : List Use) (vs : List ArcUser) (u
     ),
   )
 
-  pub lists_told : (lists : List (List ℕ)) → lists ≡ noted_all cs vs (replicate (length gs) []) us → AreListsBy gs cs lists
+  pub lists_told : (lists : List (List ℕ)) → lists ≡ with_indexes cs vs (replicate (length gs) []) us → AreListsBy gs cs lists
   lists_told lists is = record {
     each = ap length is ∙ held.count;
     ascend = λ i js e. increasing js (list i js e).climb;
@@ -237,10 +237,10 @@ module _ (gs : List Geom) (cs : List ℕ) (us : List Use) (vs : List ArcUser) (u
     );
   }
     where
-      all : (end : ℕ) × AreHeld (length gs) (λ a y. ⊥ ⊎ Meets (length gs) cs vs us a y) end (noted_all cs vs (replicate (length gs) []) us)
+      all : (end : ℕ) × AreHeld (length gs) (λ a y. ⊥ ⊎ Meets (length gs) cs vs us a y) end (with_indexes cs vs (replicate (length gs) []) us)
       all = held_all (length gs) cs vs (λ a y. ⊥) 0 (replicate (length gs) []) us (none_held (length gs)) used.ascends (λ u h. omega arith)
 
-      held : AreHeld (length gs) (λ a y. ⊥ ⊎ Meets (length gs) cs vs us a y) all.0 (noted_all cs vs (replicate (length gs) []) us)
+      held : AreHeld (length gs) (λ a y. ⊥ ⊎ Meets (length gs) cs vs us a y) all.0 (with_indexes cs vs (replicate (length gs) []) us)
       held = all.1
 
       list : (i : ℕ) (js : List ℕ) → slice_get lists i ≡ Some js → IsHeld (λ y. ⊥ ⊎ Meets (length gs) cs vs us i y) all.0 js
