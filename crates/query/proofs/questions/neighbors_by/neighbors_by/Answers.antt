@@ -24,7 +24,7 @@ returns-clause-layer c = λ m of. layer_found _ _ (named_features m c.args.topol
 pub returns-clause-neighbors : goal.returns-clause-neighbors
 returns-clause-neighbors c = λ m of.
     let gs = c.in-Some.geometries.now in
-    let all : lent c.add_geometries.new.found.items ≡ gs = c.in_ok-add_geometries.ensures ∙ ap (λ w. lent w ++ gs) c.new-noted.ensures.items in
+    let all : lent c.add_geometries.new.found.items ≡ gs = c.in_ok-add_geometries.ensures ∙ ap (λ w. lent w ++ gs) c.new-found.ensures.items in
     lists_neighbors_by m c.args.topology.now of c.args.layer.now gs c.in-Some.ensures.found c.args.property.now c.in_ok-classes.classes.items
     (subst (λ w. AreClasses (values_of c.args.property.now w) c.in_ok-classes.classes.items) (ap lent c.deref.ensures.value ∙ all) c.in_ok-classes.ensures)
     (map (λ l. l.items) c.in_ok-lists_by.field-0.items)
