@@ -19,9 +19,10 @@ With --try it applies each edit of tests/edits, or of the crates that are named,
 that it changes and what they call, or the whole crate where those are proved: the prover has to refuse it. With --all those in
 must-fail are tried too. Checks go on from what earlier ones kept in crates/CRATE/out, if there is some. So many run at a time as
 --jobs or RT_JOBS says, or else as there are processors, and 4 GB of free memory for each. After so many --seconds it stops.
-Crates come first that differ from the commit in tests/edits/TRIED, in a file of their own, of a crate below or of their edits,
-and the others behind them; both in an order that is drawn from the commit. --note writes that file, if all of tests/edits were
-tried and refused. Ends with a line of counts, and with status 1 where one is not refused, or none was tried.
+tests/edits/TRIED has for each crate the commit at which its edits were last tried, all of them refused. Crates come first that differ
+from it, in a file of their own, of a crate below or of their edits, and the others behind them; both in an order that is drawn from
+the commit. --note writes that file, for each crate all of whose edits were tried and refused. Ends with a line of counts, and with
+status 1 where one is not refused, or none was tried.
 """
 
 import argparse

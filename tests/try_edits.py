@@ -285,11 +285,11 @@ class Tries:
 
     def __init__(self, checker, room, lanes):
         self.checker, self.room, self.lanes = checker, room, lanes
-        self.lock, self.refused, self.wrong, self.left = threading.Lock(), 0, 0, {}
+        self.lock, self.refused, self.wrong, self.left = threading.Lock(), set(), set(), {}
 
     def tell(self, path, is_refused, said):
         with self.lock:
-            self.refused, self.wrong = self.refused + is_refused, self.wrong + (not is_refused)
+            (self.refused if is_refused else self.wrong).add(path)
             print(f"{path}: {said}", flush=True)
 
     def end(self, kept):
@@ -366,30 +366,35 @@ def git(*words):
     return None if ran.returncode else ran.stdout
 
 
-def changed_files():
-    """The files that differ from the commit at which all edits were tried, or None where there is no such commit."""
-    noted = ""
-    if os.path.isfile(f"{TOP}/{NOTE}"):
-        with open(f"{TOP}/{NOTE}", encoding="utf-8") as file:
-            noted = file.read().strip()
-    changed = git("diff", "--name-only", noted, "--") if re.fullmatch("[0-9a-f]{40}", noted) else None
-    if changed is None:
-        print("there is no commit at which all edits were tried, so all crates differ from it")
-        return None
-    return [*changed.split("\n"), *(git("ls-files", "--others", "--exclude-standard") or "").split("\n")]
+def noted_commits():
+    """The commit at which the edits of a crate were last tried, all of them refused, by the crate's name."""
+    if not os.path.isfile(f"{TOP}/{NOTE}"):
+        return {}
+    with open(f"{TOP}/{NOTE}", encoding="utf-8") as file:
+        return dict(re.findall("^([a-z_]+) ([0-9a-f]{40})$", file.read(), re.MULTILINE))
 
 
-def differs(crate, changed):
-    """Whether a file of the crate, of a crate below, or of its edits is among those that have changed."""
-    folders = [f"crates/{it.name}/" for it in [crate, *crate.below()]] + [f"{edits.APART.format(crate.name)}/"]
+@functools.cache
+def changed_files(commit):
+    """The files that differ from a commit, or None where there is no such commit."""
+    changed = git("diff", "--name-only", commit, "--")
+    others = git("ls-files", "--others", "--exclude-standard")
+    return None if changed is None else [*changed.split("\n"), *(others or "").split("\n")]
+
+
+def differs(crate, noted):
+    """Whether a file of the crate, of a crate below, or of its edits has changed since they were tried."""
+    changed = changed_files(noted[crate.name]) if crate.name in noted else None
+    folders = [f"crates/{it.name}/{part}/" for it in [crate, *crate.below()] for part in ("src", "specs", "proofs")]
+    folders.append(f"{edits.APART.format(crate.name)}/")
     return changed is None or any(it.startswith(folder) for it in changed for folder in folders)
 
 
-def in_order(found, changed):
+def in_order(found, noted):
     """The crates, with their edits: first those that differ, and otherwise in an order that is drawn from the commit."""
     head = git("rev-parse", "HEAD") or ""
     drawn = {it: hashlib.sha256(f"{head.strip()} {it.name}".encode()).digest() for it in found}
-    return sorted(found.items(), key=lambda it: (not differs(it[0], changed), drawn[it[0]]))
+    return sorted(found.items(), key=lambda it: (not differs(it[0], noted), drawn[it[0]]))
 
 
 def wanted_edits(kit, words):
@@ -406,13 +411,15 @@ def wanted_edits(kit, words):
     return found
 
 
-def note():
-    """Notes the commit at which all were tried."""
+def note(crates, noted):
+    """Notes this commit for crates whose edits were all tried and refused."""
     if git("status", "--porcelain", "--", "crates", "crates.txt", "tests/edits", f":!{NOTE}") != "":
         print(f"{NOTE} is as it was: what was tried is not all committed")
         return
+    head = git("rev-parse", "HEAD").strip()
+    lines = sorted({**noted, **{it.name: head for it in crates}}.items())
     with open(f"{TOP}/{NOTE}", "w", encoding="utf-8") as file:
-        file.write(git("rev-parse", "HEAD"))
+        file.writelines(f"{name} {commit}\n" for name, commit in lines)
 
 
 def main(words):
@@ -422,7 +429,8 @@ def main(words):
     os.chdir(TOP)
     found = wanted_edits(kit, words)
     number = int(os.environ.get("RT_JOBS") or 0) or min(kit.processors(), 1 + kit.free() // CHECK_MEMORY)
-    order = in_order(found, changed_files())
+    noted = noted_commits()
+    order = in_order(found, noted)
     build_libraries(kit, [*found])
     lanes = Lanes(words.jobs or number)
     with tempfile.TemporaryDirectory(prefix="edits-", ignore_cleanup_errors=True) as room:
@@ -437,10 +445,9 @@ def main(words):
             lanes.stopped = True
             checker.stop()
             lanes.tasks.join()
-    count, tried = sum(map(len, found.values())), tries.refused + tries.wrong
-    is_well = tries.refused > 0 and not tries.wrong and not lanes.failed
-    if words.note and is_well and tried == count and not words.crates:
-        note()
+    count, tried = sum(map(len, found.values())), len(tries.refused) + len(tries.wrong)
+    if words.note:
+        note([it for it, paths in found.items() if tries.refused.issuperset(paths)], noted)
     stopped = "" if tried == count else f"stopped after {time.monotonic() - begun:.0f} s: "
-    print(f"{stopped}{tried} of {count} edits tried, {tries.refused} refused, {tries.wrong} not")
-    return 0 if is_well else 1
+    print(f"{stopped}{tried} of {count} edits tried, {len(tries.refused)} refused, {len(tries.wrong)} not")
+    return 0 if tries.refused and not tries.wrong and not lanes.failed else 1
