@@ -1,26 +1,26 @@
-"""Keeps a map in git, on branches that change, add and remove districts, and lets by_git.py merge them, lines.py print the
-diffs and the hook pre-commit look at commits.
+"""Keeps a map in git, on branches that change, add and remove districts, and lets noshinka-git merge them, print the diffs and look
+at commits.
 
-    TOPOTOOL=FOLDER/topotool python3 in_git.py
+    python3 in_git.py [NOSHINKA-GIT]
 
-All is done in a repository in a temporary folder. Each text that git merges is compared with one build of what is
+The command is the one beside this file, if no other is named. All is done in a repository in a temporary folder. Each text that git merges is compared with one build of what is
 wanted, which is told below by the ids of districts, and not by merging. Ends with status 1 where a text is another one,
 or git ends otherwise than it should.
 """
 
 import json
 import os
-import shutil
 import subprocess
 import sys
 import tempfile
 
 sys.dont_write_bytecode = True
 
+import program
 from shards import STEP, across, district
 
-HERE = os.path.dirname(os.path.abspath(__file__))
-TOPOTOOL = os.environ["TOPOTOOL"]
+COMMAND = os.path.abspath(sys.argv[1] if sys.argv[1:] else os.path.join(os.path.dirname(__file__), "noshinka-git"))
+TOPOTOOL = program.topotool()
 GRID = "10,10,0,0"
 SIDE = 5
 MAP = "country.topo.json"
@@ -76,11 +76,7 @@ class Repository:
         self.git("checkout", "-q", "-b", "main")
         self.git("config", "user.name", "Many Hands")
         self.git("config", "user.email", "hands@example.org")
-        self.git("config", "merge.topotool.driver", f"'{sys.executable}' '{HERE}/by_git.py' %O %A %B %P")
-        self.git("config", "diff.topotool.textconv", f"'{sys.executable}' '{HERE}/lines.py'")
-        shutil.copy(f"{HERE}/pre-commit", f"{self.top}/.git/hooks/")
-        with open(f"{self.top}/.gitattributes", "w", encoding="utf-8") as file:
-            file.write("*.topo.json merge=topotool diff=topotool\n")
+        subprocess.run([COMMAND, "install", self.top], check=True, env=self.env, stdout=subprocess.DEVNULL)
         self.git("add", ".gitattributes")
         self.git("commit", "-q", "-m", "Maps are merged by topotool")
 
