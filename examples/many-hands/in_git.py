@@ -333,6 +333,8 @@ def installs(it):
     wants("topotool" not in read(".git/config") and not os.path.exists(f"{other}/.git/hooks/pre-commit"), "what uninstall leaves")
     command("install", "--global", GIT_CONFIG_GLOBAL=f"{other}/global")
     wants("merge-driver %O %A %B %P" in read("global") and "topotool" not in read(".git/config"), "the lines of --global")
+    command("uninstall", "--global", GIT_CONFIG_GLOBAL=f"{other}/global")
+    wants("topotool" not in read("global"), "what uninstall --global leaves")
     command("install", "--global", ".", status=2)
     is_ours = written("ours", "no map")
     said = command("merge-driver", "ours", "ours", "ours", "map.topo.json", status=3, TOPOTOOL="/nowhere/topotool")
