@@ -5,8 +5,9 @@
 NAME is a crate of a program, and FILE what was made of it; without words crates/NAME/out/NAME of topotool and togrid. rt has two
 records: `rt ci` keeps, beside the kit, the sums of what it proved, under a sum of all that was read (the kit, the crate's files, and
 the libraries below it, as they were built); `rt run` leaves out/NAME.stamp, a sum of the crate's files and of the program. Both are
-made again here, by the kit's own functions. With a kit whose records can't be read so, a program counts as proved if it is newer
-than all files that it is made of, and a line says so. Prints a line for each program, and ends with status 1 if one isn't proved.
+made again here, by the kit's own functions. With a kit whose records can't be read so, a program counts as proved if it is in its
+out/, where rt leaves what it proved, and newer than all files that it is made of; a line says so. Prints a line for each program, and
+ends with status 1 if one isn't proved.
 """
 import copy
 import functools
@@ -103,6 +104,11 @@ def is_newer(made, crate):
     return os.path.isfile(made) and all(os.stat(it).st_mtime < os.stat(made).st_mtime for it in sources(crate))
 
 
+def is_left(crate, program):
+    """Whether a program is where rt leaves it."""
+    return os.path.realpath(program) == os.path.realpath(f"{TOP}/crates/{crate}/out/{crate}")
+
+
 def unproved(programs):
     """The programs, by their crates, that aren't proved; prints a line for each that is."""
     try:
@@ -110,7 +116,7 @@ def unproved(programs):
         proved = {name: records.is_proved(name, program) for name, program in programs.items()}
         how = "proved by rt, of these files"
     except UNREADABLE as fault:
-        proved = {name: is_newer(program, name) for name, program in programs.items()}
+        proved = {name: is_left(name, program) and is_newer(program, name) for name, program in programs.items()}
         how = f"newer than these files; rt's records can't be read ({fault})"
     for name in filter(proved.get, programs):
         print(f"{programs[name]}: {how}")
