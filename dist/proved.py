@@ -44,7 +44,7 @@ class Records:
         self.lib.Crate, self.rt.Crate.allowed = self.rt.Crate, self.rt.handles_of(TOP)
         # (made without its own start, which makes the folder of the records)
         self.kept = self.rt.Kept.__new__(self.rt.Kept)
-        self.kept.at, self.kept.rlibs, self.kept.marks = self.rt.STORE, {}, {}
+        self.kept.at, self.kept.rlibs, self.places = self.rt.STORE, {}, {}
         os.listdir(self.kept.at)
         self.crates = {it.name: it for it in self.lib.crates_below(f"{TOP}/crates")}
 
@@ -56,8 +56,9 @@ class Records:
         if not all(self.is_proved_library(it.name) for it in crate.below()):
             return {}
         key = self.kept.key(crate)
+        self.places[name] = self.kept.place(crate, False, key)
         try:
-            with open(f"{self.kept.place(crate, False, key)}/made.json", encoding="utf-8") as file:
+            with open(f"{self.places[name]}/made.json", encoding="utf-8") as file:
                 made = json.load(file)
         except FileNotFoundError:
             return {}
@@ -66,10 +67,17 @@ class Records:
     @functools.lru_cache(maxsize=None)
     def is_proved_library(self, name):
         """Whether the files of a library in its out/ are those that `rt ci` made."""
-        crate = self.crates[name]
-        self.kept.is_built(crate)
-        sums = self.sums(name)
-        return bool(sums) and self.kept.rlibs[name] == hashlib.sha256(repr([*sums.items()]).encode()).hexdigest()
+        crate, sums = self.crates[name], self.sums(name)
+        if not sums or self.kept.made(crate, False) != [*sums]:
+            return False
+        for number, (file, sum) in enumerate(sums.items()):
+            # (mostly two names of one file, which need not be read)
+            made, noted = f"{crate.folder}/out/{file}", f"{self.places[name]}/{number}"
+            if not (os.path.isfile(noted) and os.path.samefile(made, noted)) and self.lib.sum_of(made) != sum:
+                return False
+        # As rt notes a library that it has built, for the keys of those above.
+        self.kept.rlibs[name] = hashlib.sha256(repr([*sums.items()]).encode()).hexdigest()
+        return True
 
     def is_stamped(self, name, program):
         """Whether `rt run` proved this program of the files that are here."""
