@@ -1,10 +1,12 @@
-"""Makes the manual pages and the completions from what `topotool --help`, `topotool COMMAND --help` and `togrid --help` print.
+"""Makes the manual pages and the completions from what `topotool --help`, `topotool COMMAND --help` and `togrid --help` print, and
+noshinka-git in the same way.
 
     python3 docs/manual.py [--check]
 
-It writes for each program, as for topotool, docs/topotool.1, completions/topotool.bash and completions/_topotool (for zsh). With
---check it writes nothing, and compares: it ends with a line of counts, and with status 1 where a file is not what would be written.
-The programs are crates/topotool/out/topotool and crates/togrid/out/togrid, or those that the variables TOPOTOOL and TOGRID name.
+It writes for each program, as for topotool, docs/topotool.1, completions/topotool.bash, completions/topotool.fish and
+completions/_topotool (for zsh). With --check it writes nothing, and compares: it ends with a line of counts, and with status 1 where
+a file is not what would be written. The programs are crates/topotool/out/topotool and crates/togrid/out/togrid, or those that the
+variables TOPOTOOL and TOGRID name.
 """
 
 import os
@@ -15,9 +17,13 @@ from typing import NamedTuple
 
 TOP = os.path.dirname(os.path.dirname(os.path.abspath(__file__)))
 PROGRAMS = {it: os.path.abspath(os.environ.get(it.upper(), f"{TOP}/crates/{it}/out/{it}")) for it in ("topotool", "togrid")}
+PROGRAMS["noshinka-git"] = f"{TOP}/examples/many-hands/noshinka-git"
+# It has no version but that of topotool.
+ENV = {**os.environ, "TOPOTOOL": PROGRAMS["topotool"]}
 SEE_ALSO = {
-    "topotool": ["docs/COMMANDS.md, docs/FAULTS.md and docs/LIBRARY.md of the repository.", ".BR togrid (1),"],
-    "togrid": ["docs/TOGRID.md and docs/FAULTS.md of the repository.", ".BR topotool (1),"],
+    "topotool": ["docs/COMMANDS.md, docs/FAULTS.md and docs/LIBRARY.md of the repository.", ".BR togrid (1),", ".BR noshinka-git (1),", ".BR ogr2ogr (1),", ".BR jq (1)"],
+    "togrid": ["docs/TOGRID.md and docs/FAULTS.md of the repository.", ".BR topotool (1),", ".BR ogr2ogr (1),", ".BR jq (1)"],
+    "noshinka-git": ["examples/many-hands/README.md of the repository.", ".BR topotool (1),", ".BR git (1),", ".BR gitattributes (5)"],
 }
 OPTION = re.compile(r"(?:(-\w), |    )(--[\w-]+)(?: <([^>]+)>)?")
 OPTIONAL = re.compile(r"(--[\w-]+)\[=<([^>]+)>\]$")
@@ -46,7 +52,7 @@ class Help(NamedTuple):
 
 
 def called(program, *words):
-    ran = subprocess.run([program, *words], executable=PROGRAMS[program], stdin=subprocess.DEVNULL, capture_output=True)
+    ran = subprocess.run([program, *words], executable=PROGRAMS[program], env=ENV, stdin=subprocess.DEVNULL, capture_output=True)
     return ran.stdout.decode(), ran.stderr.decode()
 
 
@@ -139,7 +145,7 @@ def manual(program, whole, commands):
     yield ".SH NOTES"
     for it in whole.after:
         yield from paragraph(it)
-    yield from (".SH SEE ALSO", *SEE_ALSO[program], ".BR ogr2ogr (1),", ".BR jq (1)")
+    yield from (".SH SEE ALSO", *SEE_ALSO[program])
 
 
 # ---- completions
@@ -175,21 +181,23 @@ BASH_FIND = r"""    for word in "${COMP_WORDS[@]:1:COMP_CWORD-1}"; do
         esac
     done"""
 
-ZSH_LAYERS = """A layer's name is typed; behind its `=` comes a file.
+ZSH_LAYERS = """# A layer's name is typed; behind its `=` comes a file.
 _PROGRAM_layers() {
-    if compset -P '*='; then _files; else _message 'a name of a layer, and ='; fi"""
+    if compset -P '*='; then _files; else _message 'a name of a layer, and ='; fi
+}
+"""
 
 # A file may stand alone.
-ZSH_NAMED = """A file, or a layer's name, which is typed, a `=` and a file.
+ZSH_NAMED = """# A file, or a layer's name, which is typed, a `=` and a file.
 _PROGRAM_layers() {
     compset -P '*='
-    _files"""
+    _files
+}
+"""
 
 ZSH = """#compdef PROGRAM
 # Completion of PROGRAM for zsh: put it into a folder of $fpath. Made by docs/manual.py.
-# LAYERS
-}
-_PROGRAM() {
+LAYERS_PROGRAM() {
 BODY
 }
 _PROGRAM "$@"
@@ -227,7 +235,8 @@ def bash(program, whole, commands):
             if value and value not in ("FILE", "PATH"):
                 values["|".join(filter(None, (letter, option)))] = values_of(words, option)
     cases = [f'        {it}) COMPREPLY=($(compgen -W "{" ".join(words)}" -- "$cur")); return ;;' if words else f"        {it}) return ;;" for it, words in values.items()]
-    text = BASH.replace("FIND\n", BASH_FIND.replace("COMMANDS", "|".join(commands)) + "\n" if commands else "")
+    text = BASH if cases else BASH.replace("    case $before in\nVALUES\n    esac\n", "")
+    text = text.replace("FIND\n", BASH_FIND.replace("COMMANDS", "|".join(commands)) + "\n" if commands else "")
     text = text.replace("ALONE", "-z $command || " if commands else "").replace("VALUES", "\n".join(cases))
     return text.replace("OPTIONS", "\n".join(options)).replace("PROGRAM", program)
 
@@ -254,7 +263,7 @@ def zsh_option(of, row):
 def zsh_arguments(program, of, found, files, indent):
     """What completes the options and files of a program or command."""
     options = [zsh_option(of, it) for it in found.rows["Options"]]
-    return "_arguments \\\n" + " \\\n".join(f"{indent}{it}" for it in [*options, quoted(files)])
+    return "_arguments \\\n" + " \\\n".join(f"{indent}{it}" for it in [*options, *([quoted(files)] if files else [])])
 
 
 def zsh(program, whole, commands):
@@ -263,12 +272,44 @@ def zsh(program, whole, commands):
         general = " ".join(zsh_option([program], it) for it in whole.rows["Options"])
         cases = []
         for name, found in commands.items():
-            files = f"*:NAME=FILE:_{program}_layers" if name == "build" else "*:FILE:_files"
+            files = f"*:NAME=FILE:_{program}_layers" if name == "build" else "*:FILE:_files" if "Arguments" in found.rows else None
             cases.append(f"                {name}) {zsh_arguments(program, [program, name], found, files, ' ' * 20)} ;;")
         body = ZSH_COMMANDS.replace("COMMANDS", "\n".join(told)).replace("CASES", "\n".join(cases)).replace("GENERAL", general)
     else:
         body = "    " + zsh_arguments(program, [program], whole, f"*:[NAME=]FILE:_{program}_layers", " " * 8)
-    return ZSH.replace("BODY", body).replace("LAYERS", ZSH_LAYERS if commands else ZSH_NAMED).replace("PROGRAM", program)
+    layers = ZSH_LAYERS if "build" in commands else "" if commands else ZSH_NAMED
+    return ZSH.replace("BODY", body).replace("LAYERS", layers).replace("PROGRAM", program)
+
+
+FISH = """# Completion of PROGRAM for fish: put it into ~/.config/fish/completions. Made by docs/manual.py.
+LINES
+"""
+
+
+def fish_quoted(text):
+    return "'" + text.replace("\\", "\\\\").replace("'", "\\'") + "'"
+
+
+def fish_option(program, of, row, where):
+    """The line of fish for an option of a program, or of one of its commands, which is that of `where`."""
+    letter, option, value = row.option()
+    words = values_of(of, option) if value else []
+    takes = " -r -F" if value in ("FILE", "PATH") else f" -x -a {fish_quoted(' '.join(words))}" if words else " -x" if value else ""
+    short = f" -s {letter[1:]}" if letter else ""
+    return f"complete -c {program}{where}{short} -l {option[2:]}{takes} -d {fish_quoted(row.text)}"
+
+
+def fish(program, whole, commands):
+    """A program's completions; where it has commands, no file comes before one, nor behind one that takes none."""
+    first = " -n __fish_use_subcommand" if commands else ""
+    lines = [f"complete -c {program} -f"] if commands else []
+    lines += [f"complete -c {program}{first} -a {it.word} -d {fish_quoted(it.text)}" for it in whole.rows.get("Commands", [])]
+    lines += [fish_option(program, [program], it, first) for it in whole.rows["Options"]]
+    for name, found in commands.items():
+        where = f" -n '__fish_seen_subcommand_from {name}'"
+        lines += [f"complete -c {program}{where} -F"] if "Arguments" in found.rows else []
+        lines += [fish_option(program, [program, name], it, where) for it in found.rows["Options"]]
+    return FISH.replace("LINES", "\n".join(lines)).replace("PROGRAM", program)
 
 
 def made_of(program):
@@ -279,6 +320,7 @@ def made_of(program):
     return {
         f"docs/{program}.1": "\n".join(manual(program, whole, commands)) + "\n",
         f"completions/{program}.bash": bash(program, whole, commands),
+        f"completions/{program}.fish": fish(program, whole, commands),
         f"completions/_{program}": zsh(program, whole, commands),
     }, len(names)
 
@@ -287,7 +329,7 @@ def main():
     made, count = {}, 0
     for program, file in PROGRAMS.items():
         if not os.path.isfile(file):
-            sys.exit(f"{file} is not there: rt run in crates/{program} builds it")
+            sys.exit(f"{file} is not there: rt run in crates/{program} builds it, or set {program.upper()}")
         texts, commands = made_of(program)
         made.update(texts)
         count += commands

@@ -1,12 +1,15 @@
-"""Asks bash for the completions of command lines of topotool and togrid, by the files in completions/, in a folder with some files.
+"""Asks bash and fish for the completions of command lines of topotool, togrid and noshinka-git, by the files in completions/, in a
+folder with some files.
 
     python3 tests/completions.py
 
-Ends with a line of counts, and with status 1 where bash answers anything else. Where there is no bash it says that it was
-skipped. That the completions name the words of the programs is compared by docs/manual.py.
+Ends with a line of counts, and with status 1 where a shell answers anything else. Where there is no bash it says that it was skipped.
+Where there is no fish, the words in the files for fish are compared with those in the files for bash, and a line says so. That the
+completions name the words of the programs is compared by docs/manual.py.
 """
 
 import os
+import re
 import shutil
 import subprocess
 import sys
@@ -71,33 +74,82 @@ ROWS = [
     (["togrid", "--reals", "t"], set()),
     (["togrid", "-o", "w"], {"west.json"}),
     (["togrid", "--report", "=", "w"], {"west.json"}),
+    (["noshinka-git", ""], {"install", "uninstall", "merge-driver", "textconv", "pre-commit", "-h", "--help", "-V", "--version"}),
+    (["noshinka-git", "p"], {"pre-commit"}),
+    (["noshinka-git", "install", "--g"], {"--global"}),
+    (["noshinka-git", "textconv", "w"], {"west.json"}),
 ]
 
 ASK = 'source "$1"; shift; COMP_WORDS=("$@"); COMP_CWORD=$(($# - 1)); "_$1"; printf "%s\\n" "${COMPREPLY[@]}"'
 
 
-def answered(words):
+FISH_ASK = "source $argv[1]; complete --do-complete $argv[2]"
+
+
+def bash(words):
     """What bash answers for a line."""
     ran = subprocess.run(["bash", "-c", ASK, "bash", f"{TOP}/completions/{words[0]}.bash", *words], capture_output=True, text=True)
     return set(filter(None, ran.stdout.split("\n")))
+
+
+def fish(words):
+    """What fish answers for a line: whole words, with what is before a `=`, which is left out here."""
+    line = re.sub(" ?= ?", "=", " ".join(words))
+    ran = subprocess.run(["fish", "--no-config", "-c", FISH_ASK, f"{TOP}/completions/{words[0]}.fish", line], capture_output=True, text=True)
+    found = {it.split("\t")[0] for it in ran.stdout.split("\n") if it}
+    return {it.partition("=")[2] for it in found} if "=" in words[-2:] else found
+
+
+def shell_rows():
+    """What is asked: the shell, the line, and what is to come. fish names no option before a `-` is typed."""
+    for words, wanted in ROWS:
+        yield bash, words, wanted
+        if shutil.which("fish"):
+            yield fish, words, {it for it in wanted if words[-1].startswith("-") or not it.startswith("-")}
+
+
+def words_for_bash(program):
+    """The commands and options in a file for bash, by the command that they come behind."""
+    with open(f"{TOP}/completions/{program}.bash", encoding="utf-8") as file:
+        found = re.findall(r'^ +(?:""|([\w-]+))\) words="(.*)" ;;$', file.read(), re.MULTILINE)
+    return {command: {*words.split()} for command, words in found}
+
+
+def words_for_fish(program):
+    found = {}
+    with open(f"{TOP}/completions/{program}.fish", encoding="utf-8") as file:
+        for line in file:
+            command = re.search(r"-n '__fish_seen_subcommand_from ([\w-]+)'", line)
+            words = found.setdefault(command[1] if command else "", set())
+            options = line.partition(" -d ")[0]
+            words |= {*re.findall(r" -a ([\w-]+)$", options)} if " -l " not in options else set()
+            words |= {f"-{it}" for it in re.findall(r" -s (\w)", options)} | {f"--{it}" for it in re.findall(r" -l ([\w-]+)", options)}
+    return found
 
 
 def main():
     if not shutil.which("bash"):
         print("skipped: no bash; 0 lines, 0 wrong")
         return 0
-    wrong = 0
+    count = wrong = 0
     with tempfile.TemporaryDirectory() as folder:
         os.chdir(folder)
         for name in FILES:
             open(name, "w", encoding="utf-8").close()
-        for words, wanted in ROWS:
-            came = answered(words)
+        for shell, words, wanted in shell_rows():
+            came = shell(words)
+            count += 1
             if came != wanted:
                 wrong += 1
-                print(f"{' '.join(words)}: wanted {sorted(wanted)}, came {sorted(came)}")
+                print(f"{shell.__name__}: {' '.join(words)}: wanted {sorted(wanted)}, came {sorted(came)}")
         os.chdir(TOP)
-    print(f"completions: {len(ROWS)} lines, {wrong} wrong")
+    for program in [] if shutil.which("fish") else ["topotool", "togrid", "noshinka-git"]:
+        print(f"no fish: the words of completions/{program}.fish are compared with those for bash, and not tried")
+        count += 1
+        if words_for_fish(program) != words_for_bash(program):
+            wrong += 1
+            print(f"completions/{program}.fish has other words than {program}.bash")
+    print(f"completions: {count} lines, {wrong} wrong")
     return 1 if wrong else 0
 
 

@@ -5,8 +5,9 @@ definitions, calls with a condition, links, and how the documents are written.
 
 An example is a line that begins with `$ `, in a fenced block or indented by four spaces, and the lines below
 it. Those of a document run in turn in a folder of its own, where `examples` is that of the repository and
-`topotool` is crates/topotool/out/topotool, or the program that TOPOTOOL names, which has to be built before. Those that
-need a program of OPTIONAL that is not installed are skipped, and so are those that read what a skipped one writes. A
+`topotool` is crates/topotool/out/topotool, or the program that TOPOTOOL names, which has to be built before; so is `togrid`, and
+`noshinka-git` is that of examples/many-hands. Those that need a program of OPTIONAL that is not installed are skipped, and so are
+those that read what a skipped one writes. A
 fenced block whose first line names a file of the repository has to be in that file, line by line. docs/DEFINITIONS.md
 has to be what docs/definitions.py makes of the comments at the definitions, and each definition that a contract cites has
 to have one. The calls that docs/PROOFS.md lists as those with a condition have to be the public functions that have one,
@@ -160,6 +161,7 @@ def tried(document):
         os.mkdir(f"{folder}/bin")
         os.symlink(PROGRAM, f"{folder}/bin/topotool")
         os.symlink(TOGRID, f"{folder}/bin/togrid")
+        os.symlink(f"{TOP}/examples/many-hands/noshinka-git", f"{folder}/bin/noshinka-git")
         for command, printed in found:
             got = run(command, folder)
             if got != printed:

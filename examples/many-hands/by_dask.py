@@ -3,9 +3,9 @@
     python3 by_dask.py [--address SCHEDULER] [--workers N] [--retries N] GRID LAYER SHARD... > WHOLE
 
 Without an address N workers are made in this process. A shard is read here, and travels as bytes; so do topologies between the
-workers, each of which needs `topotool` and nothing else: the variable TOPOTOOL names it, for each worker on its own machine. A
-task whose worker is lost runs again on another, and one that fails for want of memory or a program is tried again. If topotool
-refuses a shard, its name and the error are printed, and the status is 4; no shard's bytes go into a log.
+workers, each of which needs `topotool` and nothing else, on its PATH or named by its variable TOPOTOOL. A task whose worker is lost
+runs again on another, and one that fails for want of memory or a program is tried again. If topotool refuses a shard, its name and
+the error are printed, and the status is 4; no shard's bytes go into a log.
 """
 
 import argparse
@@ -14,7 +14,11 @@ import subprocess
 import sys
 import tempfile
 
+sys.dont_write_bytecode = True
+
 from dask.distributed import Client, LocalCluster, as_completed
+
+import program
 
 AT_ONCE = 16
 REFUSED = 4
@@ -84,6 +88,8 @@ def main():
     words.add_argument("layer")
     words.add_argument("shards", nargs="+")
     words = words.parse_args()
+    if not words.address:
+        os.environ["TOPOTOOL"] = program.topotool()
     place = words.address or LocalCluster(n_workers=words.workers, threads_per_worker=1, processes=False, dashboard_address=None)
     with Client(place) as client:
         built = [client.submit(build, words.grid, words.layer, contents(it), it, pure=False, retries=words.retries) for it in words.shards]

@@ -1,15 +1,14 @@
 """The merge driver of git for topologies: puts the merge of both sides in the place of ours.
 
-    git config merge.topotool.driver "python3 FOLDER/by_git.py %O %A %B %P"
-    echo '*.topo.json merge=topotool' >> .gitattributes
+    noshinka-git merge-driver BASE OURS THEIRS [TITLE]
 
-The merge has the features of both sides, without those of the common base that either side removed; a feature that was
-changed was removed, and another one added. If both sides changed the feature of an id in a layer, and not alike, the driver
-merges the two (three_way.py). If they clash, the file has both versions, which differ only in what clashes; if one side
-removed what the other changed, it has the changed version and that of the base. So the id is there twice, and `topotool
-check --ids` refuses the file until one version is removed. Standard error has the lines by which `topotool diff` says what
+is what git calls after `noshinka-git install`. The merge has the features of both sides, without those of the common base that
+either side removed; a feature that was changed was removed, and another one added. If both sides changed the feature of an id in a
+layer, and not alike, the driver merges the two (three_way.py). If they clash, the file has both versions, which differ only in what
+clashes; if one side removed what the other changed, it has the changed version and that of the base. So the id is there twice, and
+`topotool check --ids` refuses the file until one version is removed. Standard error has the lines by which `topotool diff` says what
 each side changed, and the status is 1, so that git marks a conflict. If topotool refuses a file, its line is printed, and ours
-stays as it was: git marks that too. The variable TOPOTOOL names the program.
+stays as it was: git marks that too.
 """
 
 import json
@@ -22,9 +21,9 @@ from collections import Counter
 
 sys.dont_write_bytecode = True
 
+import program
 from three_way import merge_versions, spelled
 
-TOPOTOOL = os.environ.get("TOPOTOOL", "topotool")
 SIDES = ("base", "ours", "theirs")
 DECODER = json.JSONDecoder()
 
@@ -38,7 +37,7 @@ class Maps:
 
     def __init__(self, folder):
         self.folder = folder
-        self.program = os.path.abspath(shutil.which(TOPOTOOL) or TOPOTOOL)
+        self.program = program.topotool()
         self.read = {}
 
     def run(self, name, *words, statuses=(0,), **options):
@@ -183,7 +182,7 @@ def merge(base, ours, theirs, title):
 
 def main(words):
     if len(words) not in (3, 4):
-        print("by_git.py: the words are BASE OURS THEIRS [TITLE]", file=sys.stderr)
+        print("noshinka-git: the words are BASE OURS THEIRS [TITLE]", file=sys.stderr)
         return 2
     title = words[-1] if len(words) == 4 else words[1]
     try:
@@ -191,7 +190,7 @@ def main(words):
     except Refused as refused:
         (status,) = refused.args
     except OSError as fault:
-        print(f"by_git.py: {fault}", file=sys.stderr)
+        print(f"noshinka-git: {fault}", file=sys.stderr)
         status = 3
     print(f"{title}: not merged: it is as our side has it", file=sys.stderr)
     return status

@@ -1,26 +1,26 @@
-"""Keeps a map in git, on branches that change, add and remove districts, and lets by_git.py merge them, lines.py print the
-diffs and the hook pre-commit look at commits.
+"""Keeps a map in git, on branches that change, add and remove districts, and lets noshinka-git merge them, print the diffs and look
+at commits.
 
-    TOPOTOOL=FOLDER/topotool python3 in_git.py
+    python3 in_git.py [NOSHINKA-GIT]
 
-All is done in a repository in a temporary folder. Each text that git merges is compared with one build of what is
+The command is the one beside this file, if no other is named. All is done in a repository in a temporary folder. Each text that git merges is compared with one build of what is
 wanted, which is told below by the ids of districts, and not by merging. Ends with status 1 where a text is another one,
 or git ends otherwise than it should.
 """
 
 import json
 import os
-import shutil
 import subprocess
 import sys
 import tempfile
 
 sys.dont_write_bytecode = True
 
+import program
 from shards import STEP, across, district
 
-HERE = os.path.dirname(os.path.abspath(__file__))
-TOPOTOOL = os.environ["TOPOTOOL"]
+COMMAND = os.path.abspath(sys.argv[1] if sys.argv[1:] else os.path.join(os.path.dirname(__file__), "noshinka-git"))
+TOPOTOOL = program.topotool()
 GRID = "10,10,0,0"
 SIDE = 5
 MAP = "country.topo.json"
@@ -76,11 +76,7 @@ class Repository:
         self.git("checkout", "-q", "-b", "main")
         self.git("config", "user.name", "Many Hands")
         self.git("config", "user.email", "hands@example.org")
-        self.git("config", "merge.topotool.driver", f"'{sys.executable}' '{HERE}/by_git.py' %O %A %B %P")
-        self.git("config", "diff.topotool.textconv", f"'{sys.executable}' '{HERE}/lines.py'")
-        shutil.copy(f"{HERE}/pre-commit", f"{self.top}/.git/hooks/")
-        with open(f"{self.top}/.gitattributes", "w", encoding="utf-8") as file:
-            file.write("*.topo.json merge=topotool diff=topotool\n")
+        subprocess.run([COMMAND, "install", self.top], check=True, env=self.env, stdout=subprocess.DEVNULL)
         self.git("add", ".gitattributes")
         self.git("commit", "-q", "-m", "Maps are merged by topotool")
 
@@ -295,10 +291,61 @@ def refusals(it):
     print("many-hands: git, a side that is no topology: refused, and the map as it was")
 
 
+def installs(it):
+    """What noshinka-git writes where something is there already, and what it says where something is missing."""
+    def command(*words, status=0, **env):
+        ran = subprocess.run([COMMAND, *words], cwd=other, env={**it.env, **env}, stdin=subprocess.DEVNULL, capture_output=True, text=True)
+        if ran.returncode != status:
+            sys.exit(f"many-hands: noshinka-git {' '.join(words)} ended with {ran.returncode}:\n{ran.stdout}{ran.stderr}")
+        return ran.stdout + ran.stderr
+
+    def written(name, text):
+        """Puts a text into a file; gives what tells whether it is still there."""
+        with open(f"{other}/{name}", "w", encoding="utf-8") as file:
+            file.write(text)
+        return lambda: read(name) == text
+
+    def read(name):
+        with open(f"{other}/{name}", encoding="utf-8") as file:
+            return file.read()
+
+    def wants(holds, what):
+        if not holds:
+            sys.exit(f"many-hands: noshinka-git: {what}")
+
+    other = f"{it.folder}/other"
+    os.mkdir(other)
+    wants("not a git repository" in command("install", status=3), "a folder that is no repository")
+    subprocess.run(["git", "init", "-q", other], check=True, env=it.env)
+    said = command("install", status=3, TOPOTOOL="/nowhere/topotool")
+    wants("topotool not found: the variable TOPOTOOL names /nowhere/topotool" in said, said)
+    wants(not os.path.exists(f"{other}/.gitattributes"), "without topotool something was written")
+    written(".gitattributes", "*.png binary")
+    is_kept = written(".git/hooks/pre-commit", "#!/bin/sh\nexit 0\n")
+    for _ in range(2):
+        said = command("install", ".")
+        wants(is_kept() and ".git/hooks/pre-commit: kept as it is" in said and "pre-commit || exit 1" in said, f"the hook of another: {said}")
+        wants(read(".gitattributes") == "*.png binary\n*.topo.json merge=topotool diff=topotool\n", "the line of .gitattributes")
+    os.remove(f"{other}/.git/hooks/pre-commit")
+    command("install")
+    wants(os.access(f"{other}/.git/hooks/pre-commit", os.X_OK), "the hook")
+    command("uninstall")
+    wants("topotool" not in read(".git/config") and not os.path.exists(f"{other}/.git/hooks/pre-commit"), "what uninstall leaves")
+    command("install", "--global", GIT_CONFIG_GLOBAL=f"{other}/global")
+    wants("merge-driver %O %A %B %P" in read("global") and "topotool" not in read(".git/config"), "the lines of --global")
+    command("uninstall", "--global", GIT_CONFIG_GLOBAL=f"{other}/global")
+    wants("topotool" not in read("global"), "what uninstall --global leaves")
+    command("install", "--global", ".", status=2)
+    is_ours = written("ours", "no map")
+    said = command("merge-driver", "ours", "ours", "ours", "map.topo.json", status=3, TOPOTOOL="/nowhere/topotool")
+    wants(is_ours() and said.startswith("noshinka-git: topotool not found: ") and said.endswith("map.topo.json: not merged: it is as our side has it\n"), said)
+    print("many-hands: noshinka-git: keeps the hook of another and says so, writes each line once, says what is missing")
+
+
 def main():
     with tempfile.TemporaryDirectory() as folder:
         it = Repository(folder)
-        for part in (day, merges, other_ways, crossed, added_by_both, conflicts, settled, borders, readable, refusals):
+        for part in (day, merges, other_ways, crossed, added_by_both, conflicts, settled, borders, readable, refusals, installs):
             part(it)
 
 

@@ -1,10 +1,10 @@
 """Prints a topology with one arc and one feature a line, for `git diff`.
 
-    git config diff.topotool.textconv "python3 FOLDER/lines.py"
-    echo '*.topo.json diff=topotool' >> .gitattributes
+    noshinka-git textconv FILE
 
-An arc's name is made of its positions, and features name their arcs by it (`-` before it: reversed). So a line changes only
-where that arc or feature did, and not because others were numbered anew. A file that is no topology is printed as it is.
+is what git calls after `noshinka-git install`. An arc's name is made of its positions, and features name their arcs by it (`-`
+before it: reversed). So a line changes only where that arc or feature did, and not because others were numbered anew. A file that
+is no topology is printed as it is.
 """
 
 import hashlib
