@@ -38,14 +38,18 @@ def measure(folder, positions, seed):
     return count, *sizes, merge.seconds
 
 
+def two_digits(number):
+    return f"{float(f'{number:.2g}'):g}"
+
+
 def print_larger(country):
     """Prints the table of a country, as it was measured, and of larger maps by what it takes for each position."""
     print("\n| Map | Millions of positions | GB of GeoJSON | GB of the topology | GB of memory of a build | GB of memory of the last merge | Seconds of the last merge |")
     print("|---|---|---|---|---|---|---|")
     for name, size in {"country": country[1], **LARGER}.items():
         factor = size / country[1]
-        gigabytes = " | ".join(f"{factor * it / 1e9:.2g}" for it in country[1:5])
-        print(f"| {name} | {factor * country[0] / 1e6:.0f} | {gigabytes} | {factor * country[5]:.2g} |")
+        given = [country[0] / 1e6, *(it / 1e9 for it in country[1:5]), country[5]]
+        print(f"| {name} | {' | '.join(two_digits(factor * it) for it in given)} |")
 
 
 def main():
