@@ -44,7 +44,7 @@ from topologies import MODULES, marked
 
 SOURCE = os.path.join(HERE, "plain")
 REGISTRY = "/usr/share/cargo/registry"
-BYTES_PER_POSITION = 15  # of a map, about
+BYTES_PER_POSITION = {"tiling": 15, "short arcs": 20, "coasts": 15}  # about
 MAPS = ["tiling:8", "tiling:75", "short arcs:8", "coasts:8"]
 EXAMPLES = [("1,1,0,0", ["squares"]), ("10,10,0,0", ["east"]), ("10,10,0,0", ["west", "east"])]
 CHECKED_POSITIONS = [100, 3_000, 40_000]
@@ -225,7 +225,7 @@ class Programs:
 
     def print_map(self, kind, megabytes, seed, runs, is_counted):
         """Measures a map, and prints its table; gives the ratios of times and of memory."""
-        positions, words, topology = self.compare_map(kind, max(1, round(megabytes * 1e6 / BYTES_PER_POSITION)), seed)
+        positions, words, topology = self.compare_map(kind, max(1, round(megabytes * 1e6 / BYTES_PER_POSITION[kind])), seed)
         size = os.path.getsize(self.file("tiling.json")) / 1e6
         rows = self.rows(words, topology)
         measures = by_turns(rows, self.file("out"), runs)
