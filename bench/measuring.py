@@ -99,13 +99,13 @@ def measure_both(command, other, out, runs):
     return by_turns({"command": command, "other": other}, out, runs).values()
 
 
-def write_tiling(folder, positions, seed, shards):
-    """Writes a tiling and its shards, and answers how many positions it has.
+def write_tiling(folder, positions, seed, shards, kind="tiling"):
+    """Writes a tiling, or another kind of map, and its shards, and answers how many positions it has.
 
     Another process makes it: a measured program's peak memory counts from its parent's.
     """
     words = [sys.executable, GENERATE, folder, "--positions", str(positions), "--seed", str(seed)]
-    words += ["--shards", str(shards)]
+    words += ["--shards", str(shards), "--kind", kind]
     told = subprocess.run(words, check=True, capture_output=True, text=True).stdout
     return int(told.split()[0])
 

@@ -12,15 +12,16 @@ compiles it in a folder of its own with `cargo`, without a network, from the sou
 librust-serde-json-dev puts into /usr/share/cargo/registry; where no Rust or no such sources are there, or cargo doesn't
 build it of them, it says that it was skipped.
 
-It prints a table for tilings of about 8 and 75 megabytes: the ratio of processor times (user and system, the least of some
-runs), of instructions, and of peak memory, each of topotool to the other program. All programs of a size run by turns.
-Instructions are counted by valgrind, where it is installed, for tilings up to COUNTED megabytes. Beside each ratio stands
-its goal, which no test asks for; one that is missed is marked by an exclamation mark. topojson-client is measured where node
-and Debian's package node-vega are there. Texts are compared on each tiling, byte by byte.
+It prints a table for each of some maps, of a kind of bench/generate.py and some megabytes (MAPS): the ratio of processor
+times (user and system, the least of some runs), of instructions, and of peak memory, each of topotool to the other program.
+All programs of a map run by turns. Instructions are counted by valgrind, where it is installed, for maps up to COUNTED
+megabytes. Beside each ratio stands its goal, which no test asks for; one that is missed is marked by an exclamation mark.
+topojson-client is measured where node and Debian's package node-vega are there. Texts are compared on each map, byte by byte.
+In the end stand the least and the greatest ratio of times and of memory over the maps.
 
-With `--check` nothing is measured: texts are compared on the examples, on small tilings, and on some hundred random maps,
-their topologies, and these spelled otherwise, and the last line counts them. Ends with status 1 where a text differs or a
-program fails.
+With `--check` nothing is measured: texts are compared on the examples, on small maps of each kind, and on some hundred random
+maps, their topologies, and these spelled otherwise, and the last line counts them. Ends with status 1 where a text differs or
+a program fails.
 """
 
 import argparse
@@ -33,6 +34,7 @@ import tempfile
 
 sys.dont_write_bytecode = True
 
+from generate import KINDS
 from instructions import count
 from measuring import (
     GRID, HERE, TOOL, TOP, Failed, by_turns, end_with, need, run_once, same_bytes, stop, write_tiling
@@ -42,7 +44,8 @@ from topologies import MODULES, marked
 
 SOURCE = os.path.join(HERE, "plain")
 REGISTRY = "/usr/share/cargo/registry"
-BYTES_PER_POSITION = 15  # of a tiling, about
+BYTES_PER_POSITION = {"tiling": 15, "short arcs": 20, "coasts": 15}  # about
+MAPS = ["tiling:8", "tiling:75", "short arcs:8", "coasts:8"]
 EXAMPLES = [("1,1,0,0", ["squares"]), ("10,10,0,0", ["east"]), ("10,10,0,0", ["west", "east"])]
 CHECKED_POSITIONS = [100, 3_000, 40_000]
 COUNTED = 10
@@ -160,9 +163,9 @@ class Programs:
             self.compare([command, self.file("spelled.json")])
         return value
 
-    def compare_tiling(self, positions, seed):
-        """Makes a tiling, and compares the texts; answers its positions, the words for it and its topology."""
-        count_of_it = write_tiling(self.folder, positions, seed, 0)
+    def compare_map(self, kind, positions, seed):
+        """Makes a map, and compares the texts; answers its positions, the words for it and its topology."""
+        count_of_it = write_tiling(self.folder, positions, seed, 0, kind)
         words = [*GRID, "a=" + self.file("tiling.json")]
         self.compared = do_apart(lambda: self.count_compared(words))
         return count_of_it, words, self.file("topology.json")
@@ -178,11 +181,12 @@ class Programs:
             self.compare_questions(self.compare_builds(["--grid", grid, *("a=" + file for file in files)]))
         print(f"{len(EXAMPLES)} lists of examples: same bytes", flush=True)
 
-    def check_tilings(self, seed):
-        counts = [self.compare_tiling(positions, seed)[0] for positions in CHECKED_POSITIONS]
-        print(f"tilings of {', '.join(map(str, counts))} positions: same bytes", flush=True)
+    def check_kinds(self, seed):
+        for kind in KINDS:
+            counts = [self.compare_map(kind, positions, seed)[0] for positions in CHECKED_POSITIONS]
+            print(f"{kind}, {', '.join(map(str, counts))} positions: same bytes", flush=True)
 
-    def check_map(self, seed):
+    def check_random(self, seed):
         """Compares the texts of a random map, and answers its topology's value."""
         grid, files = random_map(seed)
         words = ["--grid", grid]
@@ -201,7 +205,7 @@ class Programs:
     def check_maps(self, maps, seed):
         geometries = arcs = 0
         for each in range(seed, seed + maps):
-            topology = self.check_map(each)
+            topology = self.check_random(each)
             arcs += len(topology["arcs"])
             geometries += sum(len(layer["geometries"]) for layer in topology["objects"].values())
         print(f"{maps} random maps, {geometries} geometries and {arcs} arcs: same bytes", flush=True)
@@ -219,38 +223,54 @@ class Programs:
                 told[command, CLIENT] = ["node", os.path.join(HERE, "others.js"), command, topology]
         return told
 
-    def print_size(self, megabytes, seed, runs):
-        """Measures a tiling, and prints its table."""
-        positions, words, topology = self.compare_tiling(max(1, round(megabytes * 1e6 / BYTES_PER_POSITION)), seed)
+    def print_map(self, kind, megabytes, seed, runs, is_counted):
+        """Measures a map, and prints its table; gives the ratios of times and of memory."""
+        positions, words, topology = self.compare_map(kind, max(1, round(megabytes * 1e6 / BYTES_PER_POSITION[kind])), seed)
         size = os.path.getsize(self.file("tiling.json")) / 1e6
         rows = self.rows(words, topology)
         measures = by_turns(rows, self.file("out"), runs)
         counts = {}
-        if megabytes <= COUNTED and shutil.which("valgrind"):
+        if is_counted and megabytes <= COUNTED and shutil.which("valgrind"):
             counts = {key: count(words) for key, words in rows.items() if key[1] != CLIENT}
-        print(f"\n{size:.1f} MB of GeoJSON, {positions} positions, a topology of {os.path.getsize(topology) / 1e6:.1f} MB\n")
+        print(f"\n{kind}, {size:.1f} MB of GeoJSON, {positions} positions, a topology of {os.path.getsize(topology) / 1e6:.1f} MB\n")
         print("| Command | Against | Seconds | Time | Instructions | Memory |\n|---|---|---|---|---|---|")
-        for key in rows:
-            if key[1] != TOOL:
-                print_row(key, measures, counts)
+        return {key: print_row(key, measures, counts) for key in rows if key[1] != TOOL}
 
 
 def print_row(key, measures, counts):
-    """A line of the table: topotool's seconds, and the ratios to another program."""
+    """A line of the table: topotool's seconds, and the ratios to another program, of which those of times and memory are given."""
     command, other = key
     mine, its = measures[command, TOOL], measures[key]
-    memory = mine.megabytes / its.megabytes
+    seconds, memory = mine.seconds / its.seconds, mine.megabytes / its.megabytes
     instructions = f"{counts[command, TOOL] / counts[key]:.2f}" if key in counts else ""
     print(
-        f"| `{command}` | {other} | {mine.seconds:.3f} | {marked(mine.seconds / its.seconds, GOALS[key])} | {instructions} "
+        f"| `{command}` | {other} | {mine.seconds:.3f} | {marked(seconds, GOALS[key])} | {instructions} "
         f"| {marked(memory, GREATEST_MEMORY[key]) if key in GREATEST_MEMORY else f'{memory:.2f}'} |",
         flush=True,
     )
+    return seconds, memory
+
+
+def print_ranges(told):
+    """The least and the greatest ratios of some maps."""
+    print(f"\n{len(told)} maps, from the least ratio to the greatest\n\n| Command | Against | Time | Memory |\n|---|---|---|---|")
+    for command, other in told[0]:
+        ranges = [f"{min(its):.2f} to {max(its):.2f}" for its in zip(*(it[command, other] for it in told))]
+        print(f"| `{command}` | {other} | {' | '.join(ranges)} |")
+
+
+def map_of(word):
+    """A kind and megabytes, as in `coasts:8`."""
+    kind, _, size = word.partition(":")
+    if kind not in KINDS:
+        raise ValueError(kind)
+    return kind, float(size)
 
 
 def main():
     parser = argparse.ArgumentParser(description="Measures commands against plain Rust.")
-    parser.add_argument("--megabytes", type=float, nargs="+", default=[8, 75])
+    parser.add_argument("--kinds", type=map_of, nargs="+", default=[*map(map_of, MAPS)], metavar="KIND:MEGABYTES")
+    parser.add_argument("--no-instructions", action="store_true", help="times and memory alone")
     parser.add_argument("--runs", type=int, default=5)
     parser.add_argument("--seed", type=int, default=1)
     parser.add_argument("--check", action="store_true", help="compare texts alone")
@@ -266,12 +286,11 @@ def main():
         programs = Programs(words.tool, compile_plain(folder, words.registry), folder)
         if words.check:
             programs.check_examples()
-            programs.check_tilings(words.seed)
+            programs.check_kinds(words.seed)
             programs.check_maps(words.maps, words.seed)
             print(f"{programs.compared} texts compared, 0 differ")
         else:
-            for megabytes in words.megabytes:
-                programs.print_size(megabytes, words.seed, words.runs)
+            print_ranges([programs.print_map(*it, words.seed, words.runs, not words.no_instructions) for it in words.kinds])
 
 
 if __name__ == "__main__":
