@@ -8,9 +8,9 @@ use Rattle.topo_io.specs.Means.{Means, MeansTopology}
 use Rattle.noshinka.specs.Options.{scope_of}
 use Rattle.noshinka.specs.Differing.{IsComparisonText, IsDiffAnswer, IsDiffRefusal, IsMeaningRefusal, IsTopologiesRefusal}
 use Rattle.noshinka.specs.Why.{IsChoiceRefusal, IsScopeRefusal, IsTextRefusal}
-use Rattle.noshinka.specs.declared.differing.Asked.{Asked}
+use Rattle.noshinka.specs.declared.differing.DiffOptions.{DiffOptions}
 use Rattle.noshinka.specs.declared.refusal.CallRefusal.{CallRefusal}
-use Rattle.noshinka.specs.declared.refusal.CallRefusal.TheVariants.{OtherGrid, NoLayer, OutOfMemory}
+use Rattle.noshinka.specs.declared.refusal.CallRefusal.TheVariants.{BadChoice, OtherGrid, NoLayer, OutOfMemory}
 
 pub other_grid : (s t : TopologyParts) (layer : Option (List ℕ)) → (s.grid ≡ t.grid → ⊥) → IsTopologiesRefusal s t layer (OtherGrid 1)
 other_grid s t layer apart = inr (inr (refl, apart))
@@ -22,24 +22,27 @@ no_layer s t layer f e told exact same = inr (inl (refl, (same, λ m n of of_oth
 pub no_memory : (s t : TopologyParts) (layer : Option (List ℕ)) → IsTopologiesRefusal s t layer OutOfMemory
 no_memory s t layer = inl refl
 
-pub bad_json : (a : Asked) (old new : List ℕ) (r : CallRefusal) → IsChoiceRefusal (2 ≤ a.json) r → IsDiffRefusal a old new r
-bad_json a old new r h = inl h
+pub bad_size : (a : DiffOptions) (old new : List ℕ) → (a.size ≡ 56 → ⊥) → IsDiffRefusal a old new BadChoice
+bad_size a old new h = inl (refl, h)
 
-pub bad_layer : (a : Asked) (old new : List ℕ) (r : CallRefusal) → IsScopeRefusal a.scope a.layer.now r → IsDiffRefusal a old new r
-bad_layer a old new r h = inr (inl h)
+pub bad_json : (a : DiffOptions) (old new : List ℕ) (r : CallRefusal) → IsChoiceRefusal (2 ≤ a.json) r → IsDiffRefusal a old new r
+bad_json a old new r h = inr (inl h)
 
-pub bad_key : (a : Asked) (old new : List ℕ) (r : CallRefusal) → IsScopeRefusal a.keyed a.key.now r → IsDiffRefusal a old new r
-bad_key a old new r h = inr (inr (inl h))
+pub bad_layer : (a : DiffOptions) (old new : List ℕ) (r : CallRefusal) → IsScopeRefusal a.scope a.layer.now r → IsDiffRefusal a old new r
+bad_layer a old new r h = inr (inr (inl h))
 
-pub old_refused : (a : Asked) (old new : List ℕ) (r : CallRefusal) → IsTextRefusal 0 old r → IsDiffRefusal a old new r
-old_refused a old new r h = inr (inr (inr (inl h)))
+pub bad_key : (a : DiffOptions) (old new : List ℕ) (r : CallRefusal) → IsScopeRefusal a.pairing a.key.now r → IsDiffRefusal a old new r
+bad_key a old new r h = inr (inr (inr (inl h)))
 
-pub new_refused : (a : Asked) (old new : List ℕ) (r : CallRefusal) → IsTextRefusal 1 new r → IsDiffRefusal a old new r
-new_refused a old new r h = inr (inr (inr (inr (inl h))))
+pub old_refused : (a : DiffOptions) (old new : List ℕ) (r : CallRefusal) → IsTextRefusal 0 old r → IsDiffRefusal a old new r
+old_refused a old new r h = inr (inr (inr (inr (inl h))))
 
-pub both_refused : (a : Asked) (old new : List ℕ) (s t : TopologyParts) → MeansTopology old s → MeansTopology new t → (layer : Option (List ℕ)) → layer ≡ scope_of a.scope a.layer.now →
+pub new_refused : (a : DiffOptions) (old new : List ℕ) (r : CallRefusal) → IsTextRefusal 1 new r → IsDiffRefusal a old new r
+new_refused a old new r h = inr (inr (inr (inr (inr (inl h)))))
+
+pub both_refused : (a : DiffOptions) (old new : List ℕ) (s t : TopologyParts) → MeansTopology old s → MeansTopology new t → (layer : Option (List ℕ)) → layer ≡ scope_of a.scope a.layer.now →
     (r : CallRefusal) → IsTopologiesRefusal s t layer r → IsDiffRefusal a old new r
-both_refused a old new s t means others layer named r h = inr (inr (inr (inr (inr (go h)))))
+both_refused a old new s t means others layer named r h = inr (inr (inr (inr (inr (inr (go h))))))
   where
     go : IsTopologiesRefusal s t layer r → IsMeaningRefusal old new (scope_of a.scope a.layer.now) r
     go (inl e) = inl e

@@ -4,5 +4,8 @@ pub mod Texts
 pub mod PartRefusals
 pub mod Removals
 pub mod Refusals
-pub mod Snaps
 pub mod Differences
+pub mod Asked
+pub mod Reports
+pub mod Edits
+pub mod Roundings

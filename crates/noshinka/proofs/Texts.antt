@@ -5,13 +5,12 @@ use Rattle.faults.specs.Fault.{IsWant}
 use Rattle.faults.specs.declared.fault.Fault.{Fault}
 use Rattle.outputs.specs.InfoText.{info_text}
 use Rattle.query.specs.Mesh.{IsMissing}
-use Rattle.query.specs.declared.edges.Edges.{Edges}
 use Rattle.reading.specs.Fault.{LeastOrWant}
 use Rattle.shapes.specs.Maps.{Layers}
 use Rattle.topo.specs.Parts.{TopologyParts}
 use Rattle.topo_io.specs.Means.{MeansTopology}
 use Rattle.topo_io.specs.Roots.{faults_of_text}
-use Rattle.noshinka.specs.Answers.{HasScope, IsBordersText, IsCollectionText, IsFeatureText, IsInfoAnswer, IsListsText, IsMeshText, IsNeighborsAnswer}
+use Rattle.noshinka.specs.Answers.{HasScope, IsCollectionText, IsFeatureText, IsInfoAnswer}
 use Rattle.noshinka.specs.Why.{IsFaultAt, IsTextRefusal}
 use Rattle.noshinka.specs.declared.refusal.CallRefusal.{CallRefusal}
 use Rattle.noshinka.specs.declared.refusal.CallRefusal.TheVariants.{BadGrid, BadName, BadChoice, NoId, Text, OtherGrid, NoText, BadPlan, NoLayer, OutOfMemory}
@@ -32,24 +31,6 @@ pub feature_answer : (text name t : List ℕ) (whole : TopologyParts) → MeansT
 feature_answer text name t whole meant is =
     let (m, means, of) = meant in
     record { grid = whole.grid; map = m; means = means; there = (is m of).0; is = (is m of).1 }
-
-pub mesh_answer : (text : List ℕ) (scope : Option (List ℕ)) (edges : Edges) (t : List ℕ) (whole : TopologyParts) → MeansTopology text whole → IsBordersText whole scope edges t → IsMeshText text scope edges t
-mesh_answer text scope edges t whole meant is =
-    let (m, means, of) = meant in
-    let (there, lines, borders, written) = is in
-    let (segments, over, selected) = borders in
-    record { grid = whole.grid; map = m; means = means; there = there m of; segments = segments; lines = lines; over = over; selected = selected m of; is = written }
-
-pub neighbors_answer : (text name : List ℕ) (by : Bool) (t : List ℕ) (whole : TopologyParts) → MeansTopology text whole → IsListsText whole name by t → IsNeighborsAnswer text name by t
-neighbors_answer text name true t whole meant is =
-    let (m, means, of) = meant in
-    let (gs, layer, rest) = is in
-    let (lists, neighbors, written) = rest in
-    record { topology = whole; map = m; means = means; of_map = of; geometries = gs; layer = layer; lists = lists; neighbors = neighbors m of; is = written }
-neighbors_answer text name false t whole meant is =
-    let (m, means, of) = meant in
-    let (lists, neighbors, written) = is in
-    record { grid = whole.grid; map = m; means = means; there = (neighbors m of).0; lists = lists; neighbors = (neighbors m of).1; is = written }
 
 pub info_answer : (text : List ℕ) (by : Bool) (t : List ℕ) (whole : TopologyParts) → MeansTopology text whole → t ≡ info_text by whole → IsInfoAnswer text by t
 info_answer text by t whole means is = record { topology = whole; means = means; is = is }

@@ -10,9 +10,9 @@ use Rattle.topo_io.specs.Means.{Means, MeansTopology}
 use Rattle.topo_io.specs.Roots.{grid_of_text}
 use Rattle.noshinka.specs.Options.{scope_of}
 use Rattle.noshinka.specs.Why.{IsChoiceRefusal, IsScopeRefusal, IsTextRefusal}
-use Rattle.noshinka.specs.declared.differing.Asked.{Asked}
+use Rattle.noshinka.specs.declared.differing.DiffOptions.{DiffOptions}
 use Rattle.noshinka.specs.declared.refusal.CallRefusal.{CallRefusal}
-use Rattle.noshinka.specs.declared.refusal.CallRefusal.TheVariants.{OtherGrid, NoLayer, OutOfMemory}
+use Rattle.noshinka.specs.declared.refusal.CallRefusal.TheVariants.{BadChoice, OtherGrid, NoLayer, OutOfMemory}
 
 -- both topologies are on one grid, and neither has the layer that is named
 abbrev pub IsLackedBy : TopologyParts → TopologyParts → Option (List ℕ) → Type 0
@@ -53,7 +53,7 @@ abbrev pub IsTextsRefusal : List ℕ → List ℕ → Option (List ℕ) → Call
 IsTextsRefusal old new layer r = IsTextRefusal 0 old r ⊎ (IsTextRefusal 1 new r ⊎ IsMeaningRefusal old new layer r)
 
 -- first what is asked, then the texts
-abbrev pub IsDiffRefusal : Asked → List ℕ → List ℕ → CallRefusal → Type 0
+abbrev pub IsDiffRefusal : DiffOptions → List ℕ → List ℕ → CallRefusal → Type 0
 IsDiffRefusal a old new r =
-    IsChoiceRefusal (2 ≤ a.json) r
-    ⊎ (IsScopeRefusal a.scope a.layer.now r ⊎ (IsScopeRefusal a.keyed a.key.now r ⊎ IsTextsRefusal old new (scope_of a.scope a.layer.now) r))
+    ((r ≡ BadChoice) × (a.size ≡ 56 → ⊥))
+    ⊎ (IsChoiceRefusal (2 ≤ a.json) r ⊎ (IsScopeRefusal a.scope a.layer.now r ⊎ (IsScopeRefusal a.pairing a.key.now r ⊎ IsTextsRefusal old new (scope_of a.scope a.layer.now) r)))

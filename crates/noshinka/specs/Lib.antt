@@ -3,6 +3,12 @@ pub mod Ends
 pub mod Options
 pub mod Why
 pub mod Answers
-pub mod Snapped
 pub mod Differing
 pub mod Listing
+pub mod RoundOptions
+pub mod ReportText
+pub mod ReportParts
+pub mod Rounding
+pub mod Editing
+pub mod FaultNames
+pub mod Asking

@@ -10,6 +10,11 @@ use Rattle.topo.specs.declared.geom.Geom.{Geom}
 abbrev pub scope_of : ℕ → List ℕ → Option (List ℕ)
 scope_of n name = if nat_eq n 0 then None else Some name
 
+-- the name, where it is asked for
+abbrev pub name_if : Bool → List ℕ → Option (List ℕ)
+name_if true name = Some name
+name_if false name = None
+
 -- the edges of a number
 abbrev pub edges_of : ℕ → Edges
 edges_of n = if nat_eq n 0 then All else (if nat_eq n 1 then Interior else Exterior)

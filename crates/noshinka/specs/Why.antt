@@ -1,5 +1,5 @@
 -- Why calls give no answer.
-use Rattle.std.specs.Prelude.{◌≡◌, ◌≤◌, ◌⊎◌, ℕ, Bool, false, List, length, map, slice_get, Option, Some, None, IsUtf8, true}
+use Rattle.std.specs.Prelude.{◌≡◌, ◌≤◌, ◌⊎◌, ℕ, Bool, List, length, map, slice_get, Option, Some, None, IsUtf8}
 use Rattle.std.specs.List.{range_with_len}
 use Rattle.outputs.specs.BuiltText.Sources.{IsRefusal}
 use Rattle.outputs.specs.declared.built_text.building.BuildFault.{BuildFault}
@@ -14,13 +14,14 @@ use Rattle.query.specs.Mesh.{IsMissing}
 use Rattle.query.specs.declared.fault.QueryFault.{QueryFault}
 use Rattle.query.specs.declared.fault.QueryFault.TheVariants as query
 use Rattle.reading.specs.Fault.{LeastOrWant}
+use Rattle.rounded_maps.specs.declared.building.MapsFault.{MapsFault}
+use Rattle.rounded_maps.specs.declared.building.MapsFault.TheVariants as maps
 use Rattle.shapes.specs.Maps.{Layers}
 use Rattle.topo.specs.ItsMap.{ForItsMap}
-use Rattle.topo.specs.Parts.{IsOfLayerNamed, TopologyParts}
-use Rattle.topo.specs.declared.geom.Geom.{Geom}
-use Rattle.topo_io.specs.Means.{Means, MeansTopology}
+use Rattle.topo.specs.Parts.{TopologyParts}
+use Rattle.topo_io.specs.Means.{Means}
 use Rattle.topo_io.specs.Roots.{faults_of_text, grid_of_text}
-use Rattle.noshinka.specs.Options.{lacks_id, scope_of}
+use Rattle.noshinka.specs.Options.{name_if, scope_of}
 use Rattle.noshinka.specs.declared.refusal.CallRefusal.{CallRefusal}
 use Rattle.noshinka.specs.declared.refusal.CallRefusal.TheVariants.{BadGrid, BadName, BadChoice, NoId, Text, OtherGrid, NoText, BadPlan, NoLayer, OutOfMemory}
 
@@ -36,6 +37,11 @@ of_merge (merge.Text place f) = Text place f
 of_merge (merge.OtherGrid place) = OtherGrid place
 of_merge merge.OutOfMemory = OutOfMemory
 
+-- the fault of maps, as a refusal
+abbrev pub of_maps : MapsFault → CallRefusal
+of_maps (maps.Text place f) = Text place f
+of_maps maps.OutOfMemory = OutOfMemory
+
 -- the fault of a question, as a refusal
 abbrev pub of_query : QueryFault → CallRefusal
 of_query query.NoLayer = NoLayer
@@ -45,6 +51,10 @@ of_query query.OutOfMemory = OutOfMemory
 abbrev pub HasBadScope : Option (List ℕ) → Type 0
 HasBadScope None = ⊥
 HasBadScope (Some name) = ¬ IsUtf8 name
+
+-- the name that is asked for is not UTF-8
+abbrev pub IsBadNameIf : Bool → List ℕ → CallRefusal → Type 0
+IsBadNameIf asked name r = (r ≡ BadName 0) × HasBadScope (name_if asked name)
 
 -- a number stands for no choice, which `Bad` says
 abbrev pub IsChoiceRefusal : Type 0 → CallRefusal → Type 0
@@ -200,42 +210,15 @@ IsLayerRefusal t scope (BadPlan k) = ⊥
 IsLayerRefusal t scope NoLayer = ForItsMap t (λ m. IsMissing m scope)
 IsLayerRefusal t scope OutOfMemory = Unit {0}
 
--- a geometry of the layer of the name has no id
-abbrev pub LacksId : TopologyParts → List ℕ → Type 0
-LacksId t name = (gs : List Geom) × IsOfLayerNamed t.layers name gs × (lacks_id gs ≡ true)
-
--- so it is where ids are asked for
-abbrev pub IfByIds : Bool → Type 0 → Type 0
-IfByIds true Fact = Fact
-IfByIds false Fact = ⊥
-
--- the topology has no layer of that name, or memory was refused, or, where ids are asked for, a geometry of the layer has none
-abbrev pub IsIdsRefusal : TopologyParts → List ℕ → Bool → CallRefusal → Type 0
-IsIdsRefusal t name by BadGrid = ⊥
-IsIdsRefusal t name by (BadName place) = ⊥
-IsIdsRefusal t name by BadChoice = ⊥
-IsIdsRefusal t name by NoId = IfByIds by (LacksId t name)
-IsIdsRefusal t name by (Text place f) = ⊥
-IsIdsRefusal t name by (OtherGrid place) = ⊥
-IsIdsRefusal t name by NoText = ⊥
-IsIdsRefusal t name by (BadPlan k) = ⊥
-IsIdsRefusal t name by NoLayer = ForItsMap t (λ m. IsMissing m (Some name))
-IsIdsRefusal t name by OutOfMemory = Unit {0}
-
--- the text is accepted, and a geometry of the layer of the name has no id in the topology of what it means
-abbrev pub TextLacksId : List ℕ → Option (List ℕ) → Type 0
-TextLacksId text None = ⊥
-TextLacksId text (Some name) = (t : TopologyParts) × MeansTopology text t × LacksId t name
-
--- why a question about a text is not answered, where `Bad` says that a number stands for no choice; an id is missed only where ids are asked for
-abbrev pub IsQuestionRefusal : Type 0 → Bool → List ℕ → Option (List ℕ) → CallRefusal → Type 0
-IsQuestionRefusal Bad by text scope BadGrid = ⊥
-IsQuestionRefusal Bad by text scope (BadName place) = (place ≡ 0) × HasBadScope scope
-IsQuestionRefusal Bad by text scope BadChoice = Bad
-IsQuestionRefusal Bad by text scope NoId = IfByIds by (TextLacksId text scope)
-IsQuestionRefusal Bad by text scope (Text place f) = IsTextRefusal 0 text (Text place f)
-IsQuestionRefusal Bad by text scope (OtherGrid place) = ⊥
-IsQuestionRefusal Bad by text scope NoText = ⊥
-IsQuestionRefusal Bad by text scope (BadPlan k) = ⊥
-IsQuestionRefusal Bad by text scope NoLayer = LacksLayer text scope
-IsQuestionRefusal Bad by text scope OutOfMemory = Unit {0}
+-- why a question about a text is not answered, where `Bad` says that a number stands for no choice
+abbrev pub IsQuestionRefusal : Type 0 → List ℕ → Option (List ℕ) → CallRefusal → Type 0
+IsQuestionRefusal Bad text scope BadGrid = ⊥
+IsQuestionRefusal Bad text scope (BadName place) = (place ≡ 0) × HasBadScope scope
+IsQuestionRefusal Bad text scope BadChoice = Bad
+IsQuestionRefusal Bad text scope NoId = ⊥
+IsQuestionRefusal Bad text scope (Text place f) = IsTextRefusal 0 text (Text place f)
+IsQuestionRefusal Bad text scope (OtherGrid place) = ⊥
+IsQuestionRefusal Bad text scope NoText = ⊥
+IsQuestionRefusal Bad text scope (BadPlan k) = ⊥
+IsQuestionRefusal Bad text scope NoLayer = LacksLayer text scope
+IsQuestionRefusal Bad text scope OutOfMemory = Unit {0}

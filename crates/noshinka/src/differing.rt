@@ -35,31 +35,39 @@ fn text_of_difference(
     }
 }
 
-/// What is asked of a difference, by the numbers and names of a caller.
+/// The options of `noshinka_diff`. `c/noshinka.h` says what each means.
+#[repr(C)]
 #[derive(Drop)]
-pub(crate) struct Asked<'a> {
-    pub(crate) scope: u32,
-    pub(crate) layer: &'a [u8],
-    pub(crate) keyed: u32,
-    pub(crate) key: &'a [u8],
-    pub(crate) json: u32,
+pub struct DiffOptions<'a> {
+    pub size: usize,
+    pub layer: &'a [u8],
+    pub key: &'a [u8],
+    pub scope: u32,
+    pub pairing: u32,
+    pub json: u32,
 }
 
+/// The bytes of the options.
+const SIZE: usize = size_of::<DiffOptions<'static>>();
+
 /// What differs between the topologies of two texts, as `topotool diff` prints it: of all layers for the scope 0, of the
-/// layer for 1. Features pair by their ids where `keyed` is 0, by the value of the property where it is 1.
-#[tactic(auto, using(crate::proofs::Differences::bad_json, crate::proofs::Differences::bad_layer, crate::proofs::Differences::bad_key, crate::proofs::Differences::old_refused, crate::proofs::Differences::new_refused, crate::proofs::Differences::both_refused))]
+/// layer for 1. Features pair by their ids where `pairing` is 0, by the value of the property where it is 1.
+#[tactic(auto, using(crate::proofs::Differences::bad_size, crate::proofs::Differences::bad_json, crate::proofs::Differences::bad_layer, crate::proofs::Differences::bad_key, crate::proofs::Differences::old_refused, crate::proofs::Differences::new_refused, crate::proofs::Differences::both_refused))]
 pub(crate) fn diff(
     alloc: Global,
     old: &[u8],
     new: &[u8],
-    asked: &Asked<'_>,
+    options: &DiffOptions<'_>,
 ) -> Result<Vec<u8>, CallRefusal>
-    ensures made { IfOk result (λ t. IsDiffAnswer old.now new.now (scope_of asked.now.scope asked.now.layer.now) (scope_of asked.now.keyed asked.now.key.now) (nat_eq asked.now.json 1) t.items) }
-    ensures refused { IfErr result (IsDiffRefusal asked.now old.now new.now) }
+    ensures made { IfOk result (λ t. IsDiffAnswer old.now new.now (scope_of options.now.scope options.now.layer.now) (scope_of options.now.pairing options.now.key.now) (nat_eq options.now.json 1) t.items) }
+    ensures refused { IfErr result (IsDiffRefusal options.now old.now new.now) }
 {
-    let json = flag(asked.json)?;
-    let layer = scope_named(asked.scope, asked.layer)?;
-    let key = scope_named(asked.keyed, asked.key)?;
+    if options.size != SIZE {
+        return Err(CallRefusal::BadChoice);
+    }
+    let json = flag(options.json)?;
+    let layer = scope_named(options.scope, options.layer)?;
+    let key = scope_named(options.pairing, options.key)?;
     let old = topology_of(alloc, 0, old)?;
     let new = topology_of(alloc, 1, new)?;
     text_of_difference(alloc, &old, &new, &DifferenceOptions { layer, key, json })

@@ -4,37 +4,51 @@
 
 ghost use Rattle.outputs.specs.BuiltText.Maps.{IsTextOfTexts};
 ghost use Rattle.merging.specs.Merge.{lent_texts, IsMergeOf};
-ghost use Rattle.noshinka.specs.Answers.{IsCanonical, IsFeatureText, IsInfoAnswer, IsMeshText, IsNeighborsAnswer, IsNotCanonical, IsRemoval};
-ghost use Rattle.noshinka.specs.Options.{edges_of, scope_of};
+ghost use Rattle.noshinka.specs.Answers.{IsCanonical, IsFeatureText, IsInfoAnswer, IsNotCanonical, IsRemoval};
+ghost use Rattle.noshinka.specs.Asking.{IsMeshRefusal, IsMeshText, IsNeighborsAnswer, IsNeighborsRefusal};
+ghost use Rattle.noshinka.specs.Options.{scope_of};
 ghost use Rattle.noshinka.specs.Differing.{IsDiffAnswer, IsDiffRefusal};
 ghost use Rattle.noshinka.specs.Ends.{EndsWith, IsVerdict};
 ghost use Rattle.noshinka.specs.Borrowed.{grid_of, borrowed_sources};
 ghost use Rattle.noshinka.specs.Listing.{IsFaultText, IsListRefusal, faults_as, format_of};
-ghost use Rattle.noshinka.specs.Snapped.{IsSnapped, IsSnapRefusal};
+ghost use Rattle.noshinka.specs.Editing.{IsEditAnswer, IsEditRefusal};
+ghost use Rattle.noshinka.specs.FaultNames.{IsFaultName, IsNameless};
+ghost use Rattle.noshinka.specs.Rounding.{IsRoundAnswer, IsRoundRefusal};
 ghost use Rattle.noshinka.specs.Why.{IsBuildRefusal, IsMergeRefusal, IsQuestionRefusal, IsRemoveRefusal, IsTextRefusal};
 ghost use Rattle.std.specs.List.{range_with_len};
-ghost use Rattle.std.specs.Prelude.{◌≡◌, ◌≤◌, ◌⊎◌, None, Some, false, length, nat_eq};
+ghost use Rattle.std.specs.Prelude.{◌≡◌, ◌≤◌, None, Some, length, nat_eq};
 
 mod borrowed;
 mod differing;
+mod editing;
+mod fault_names;
 mod fault_texts;
 mod making;
 mod options;
 mod outcome;
 mod questions;
 mod refusal;
+mod report_text;
 mod room;
+mod round_options;
 mod rounding;
+mod rules;
 mod topologies;
 
 pub use borrowed::{GridNumbers, Source};
-use differing::{Asked, diff};
+pub use differing::DiffOptions;
+use differing::diff;
+pub use editing::Change;
+use editing::edit;
+use fault_names::fault_name;
 use fault_texts::faults;
 use making::{build, merge, remove};
 pub use outcome::Outcome;
+pub use questions::{MeshOptions, NeighborsOptions};
 use questions::{feature, info, mesh, neighbors};
 use room::{answer, verdict};
-use rounding::snap;
+pub use round_options::{PropertyScale, RoundOptions};
+use rounding::round;
 use std::alloc::Global;
 use topologies::check;
 
@@ -113,85 +127,94 @@ pub extern "C" fn noshinka_feature(
     layer: &[u8],
     room: &mut [u8],
 ) -> Outcome
-    ensures { EndsWith (IsFeatureText text.now layer.now) (IsQuestionRefusal ⊥ false text.now (Some layer.now)) result room.old room.new }
+    ensures { EndsWith (IsFeatureText text.now layer.now) (IsQuestionRefusal ⊥ text.now (Some layer.now)) result room.old room.new }
 {
     answer(alloc, feature(alloc, text, layer), room)
 }
 
-/// Puts the borders of a topology's text into the room, as a GeoJSON MultiLineString: those of all layers if `scope` is
-/// 0, those of the layer if it is 1; all if `edges` is 0, those between two features if it is 1, those of one feature
-/// alone if it is 2.
+/// Puts the borders of a topology's text that the options ask for into the room, as a GeoJSON MultiLineString.
 #[unsafe(no_mangle)]
 pub extern "C" fn noshinka_mesh(
     alloc: Global,
+    options: &MeshOptions<'_>,
     text: &[u8],
-    scope: u32,
-    layer: &[u8],
-    edges: u32,
     room: &mut [u8],
 ) -> Outcome
-    ensures { EndsWith (IsMeshText text.now (scope_of scope layer.now) (edges_of edges)) (IsQuestionRefusal ((2 ≤ scope) ⊎ (3 ≤ edges)) false text.now (scope_of scope layer.now)) result room.old room.new }
+    ensures { EndsWith (IsMeshText options.now text.now) (IsMeshRefusal options.now text.now) result room.old room.new }
 {
-    answer(alloc, mesh(alloc, text, scope, layer, edges), room)
+    answer(alloc, mesh(alloc, options, text), room)
 }
 
-/// Puts the lists of the neighbours of each feature of a layer of a topology's text into the room, as JSON: their places
-/// from 0 if `ids` is 0, their ids if it is 1.
+/// Puts the neighbours of each feature of a layer of a topology's text into the room, as JSON: by their places or by ids.
 #[unsafe(no_mangle)]
 pub extern "C" fn noshinka_neighbors(
     alloc: Global,
+    options: &NeighborsOptions<'_>,
     text: &[u8],
     layer: &[u8],
-    ids: u32,
     room: &mut [u8],
 ) -> Outcome
-    ensures { EndsWith (IsNeighborsAnswer text.now layer.now (nat_eq ids 1)) (IsQuestionRefusal (2 ≤ ids) (nat_eq ids 1) text.now (Some layer.now)) result room.old room.new }
+    ensures { EndsWith (IsNeighborsAnswer options.now text.now layer.now) (IsNeighborsRefusal options.now text.now layer.now) result room.old room.new }
 {
-    answer(alloc, neighbors(alloc, text, layer, ids), room)
+    answer(alloc, neighbors(alloc, options, text, layer), room)
 }
 
 /// Puts what is in a topology's text into the room, as `topotool info` prints it: as lines if `json` is 0, as JSON if it
 /// is 1.
 #[unsafe(no_mangle)]
 pub extern "C" fn noshinka_info(alloc: Global, text: &[u8], json: u32, room: &mut [u8]) -> Outcome
-    ensures { EndsWith (IsInfoAnswer text.now (nat_eq json 1)) (IsQuestionRefusal (2 ≤ json) false text.now None) result room.old room.new }
+    ensures { EndsWith (IsInfoAnswer text.now (nat_eq json 1)) (IsQuestionRefusal (2 ≤ json) text.now None) result room.old room.new }
 {
     answer(alloc, info(alloc, text, json), room)
 }
 
-/// Puts the features of a GeoJSON text into the room as a FeatureCollection, as `togrid` prints it: coordinates are whole
-/// numbers of steps, of each the nearest. The step is a numeral without a sign, as `0.25` or `1e-6`; an empty one stands for
-/// degrees, with steps of 0.000001.
+/// Puts what texts in decimal numbers are rounded to into the room: the canonical text of their topology, or their features
+/// as a FeatureCollection, behind a report where the options ask for it.
 #[unsafe(no_mangle)]
-pub extern "C" fn noshinka_snap(alloc: Global, text: &[u8], step: &[u8], room: &mut [u8]) -> Outcome
-    ensures { EndsWith (IsSnapped step.now text.now) (IsSnapRefusal step.now text.now) result room.old room.new }
+pub extern "C" fn noshinka_round(
+    alloc: Global,
+    options: &RoundOptions<'_>,
+    sources: &[Source<'_>],
+    room: &mut [u8],
+) -> Outcome
+    ensures { EndsWith (IsRoundAnswer options.now (borrowed_sources sources.now)) (IsRoundRefusal options.now (borrowed_sources sources.now)) result room.old room.new }
 {
-    answer(alloc, snap(alloc, text, step), room)
+    answer(alloc, round(alloc, options, sources), room)
+}
+
+/// Puts the canonical text of a topology's text after changes into the room, one change after the other. The text has the
+/// place 0, those of the changes follow.
+#[unsafe(no_mangle)]
+pub extern "C" fn noshinka_edit(
+    alloc: Global,
+    text: &[u8],
+    changes: &[Change<'_>],
+    room: &mut [u8],
+) -> Outcome
+    ensures { EndsWith (IsEditAnswer text.now changes.now) (IsEditRefusal text.now changes.now) result room.old room.new }
+{
+    answer(alloc, edit(alloc, text, changes), room)
+}
+
+/// Puts the name of the fault with a number into the room.
+#[unsafe(no_mangle)]
+pub extern "C" fn noshinka_fault_name(alloc: Global, fault: u32, room: &mut [u8]) -> Outcome
+    ensures { EndsWith (IsFaultName fault) (IsNameless fault) result room.old room.new }
+{
+    answer(alloc, fault_name(alloc, fault), room)
 }
 
 /// Puts what differs between two topologies' texts, which have the places 0 and 1, into the room, as `topotool diff` prints
-/// it: as lines if `json` is 0, as JSON if it is 1. All layers are compared if `scope` is 0, the layer if it is 1. Features
-/// pair by their ids if `keyed` is 0, by the values of the property `key` if it is 1.
+/// it.
 #[unsafe(no_mangle)]
 pub extern "C" fn noshinka_diff(
     alloc: Global,
+    options: &DiffOptions<'_>,
     text: &[u8],
     other: &[u8],
-    scope: u32,
-    layer: &[u8],
-    keyed: u32,
-    key: &[u8],
-    json: u32,
     room: &mut [u8],
 ) -> Outcome
-    ensures { EndsWith (IsDiffAnswer text.now other.now (scope_of scope layer.now) (scope_of keyed key.now) (nat_eq json 1)) (IsDiffRefusal (record { scope = scope; layer = layer.entry; keyed = keyed; key = key.entry; json = json }) text.now other.now) result room.old room.new }
+    ensures { EndsWith (IsDiffAnswer text.now other.now (scope_of options.now.scope options.now.layer.now) (scope_of options.now.pairing options.now.key.now) (nat_eq options.now.json 1)) (IsDiffRefusal options.now text.now other.now) result room.old room.new }
 {
-    let asked = Asked {
-        scope,
-        layer,
-        keyed,
-        key,
-        json,
-    };
-    answer(alloc, diff(alloc, text, other, &asked), room)
+    answer(alloc, diff(alloc, text, other, options), room)
 }

@@ -1,6 +1,6 @@
 //! What the numbers of a caller stand for.
-ghost use Rattle.noshinka.specs.Options.{edges_of, has_no_id, lacks_id, scope_of};
-ghost use Rattle.noshinka.specs.Why.{IsChoiceRefusal, IsScopeRefusal};
+ghost use Rattle.noshinka.specs.Options.{edges_of, has_no_id, lacks_id, name_if, scope_of};
+ghost use Rattle.noshinka.specs.Why.{IsBadNameIf, IsChoiceRefusal, IsScopeRefusal};
 ghost use Rattle.std.specs.Option.{option_map};
 ghost use Rattle.std.specs.Prelude.{◌≡◌, ◌≤◌, IfErr, IfOk, nat_eq};
 
@@ -22,15 +22,15 @@ pub(crate) fn flag(number: u32) -> Result<bool, CallRefusal>
     }
 }
 
-/// The edges that a number stands for.
+/// The edges that a number stands for; 3 is for those at which a property differs.
 pub(crate) fn edges_named(number: u32) -> Result<Edges, CallRefusal>
     ensures edges { IfOk result (λ e. e ≡ edges_of number) }
-    ensures bad { IfErr result (IsChoiceRefusal (3 ≤ number)) }
+    ensures bad { IfErr result (IsChoiceRefusal (4 ≤ number)) }
 {
     match number {
         0 => Ok(Edges::All),
         1 => Ok(Edges::Interior),
-        2 => Ok(Edges::Exterior),
+        2 | 3 => Ok(Edges::Exterior),
         _ => Err(CallRefusal::BadChoice),
     }
 }
@@ -47,6 +47,20 @@ pub(crate) fn scope_named(number: u32, layer: &[u8]) -> Result<Option<&str>, Cal
             Err(refusal) => Err(refusal),
         },
         _ => Err(CallRefusal::BadChoice),
+    }
+}
+
+/// A name where it is asked for.
+pub(crate) fn name_if(asked: bool, name: &[u8]) -> Result<Option<&str>, CallRefusal>
+    ensures name { IfOk result (λ n. option_map (λ n. n.now) n ≡ name_if asked name.now) }
+    ensures bad { IfErr result (IsBadNameIf asked name.now) }
+{
+    if !asked {
+        return Ok(None);
+    }
+    match str::from_utf8(name) {
+        Ok(name) => Ok(Some(name)),
+        Err(_) => Err(CallRefusal::BadName(0)),
     }
 }
 

@@ -1,23 +1,32 @@
 //! Answers to questions about a borrowed topology.
-ghost use Rattle.noshinka.specs.Answers.{IsBordersText, IsCollectionText, IsFeatureText, IsInfoAnswer, IsListsText, IsMeshText, IsNeighborsAnswer};
-ghost use Rattle.noshinka.specs.Options.{edges_of, scope_of};
-ghost use Rattle.noshinka.specs.Why.{IsIdsRefusal, IsLayerRefusal, IsQuestionRefusal};
+ghost use Rattle.noshinka.specs.Answers.{IsCollectionText, IsFeatureText, IsInfoAnswer};
+ghost use Rattle.noshinka.specs.Asking.{AreAskedBorders, AreAskedNeighbors, IsBordersText, IsIdsRefusal, IsListsRefusal, IsListsText, IsMeshRefusal, IsMeshText, IsNeighborsAnswer, IsNeighborsRefusal, are_neighbors_choices, ids_text};
+ghost use Rattle.noshinka.specs.Why.{IsLayerRefusal, IsQuestionRefusal};
 ghost use Rattle.query.specs.AnswerTexts.{neighbor_ids_text, neighbors_text};
+ghost use Rattle.query.specs.Keyed.{keyed_text};
+ghost use Rattle.query.specs.Mesh.{IsMissing};
+ghost use Rattle.query.specs.declared.fault.QueryFault.TheVariants.{NoLayer as MissingLayer};
 ghost use Rattle.outputs.specs.InfoText.{info_text};
+ghost use Rattle.shapes.specs.Maps.{features_at};
+ghost use Rattle.shapes.specs.Sets as set;
 ghost use Rattle.sinks.specs.Writes.{TookAll, TookPart};
+ghost use Rattle.std.specs.FinMap as layers;
 ghost use Rattle.std.specs.Option.{option_map};
-ghost use Rattle.std.specs.Prelude.{◌≡◌, ◌≤◌, ◌⊎◌, IfErr, IfOk, OnErr, OnOk, Some, None, false, map, nat_eq, true};
+ghost use Rattle.std.specs.Prelude.{◌≡◌, ◌↔◌, ◌≤◌, Err, IfErr, IfOk, IsTrue, OnErr, OnOk, Some, None, map, nat_eq};
+ghost use Rattle.topo.specs.ItsMap.{ForItsMap};
 ghost use Rattle.topo.specs.Parts.{IsOfLayerNamed};
 
 use crate::borrowed::name_of;
-use crate::options::{edges_named, flag, is_id_missing, scope_named};
+use crate::options::{edges_named, flag, is_id_missing, name_if, scope_named};
 use crate::refusal::CallRefusal;
 use crate::topologies::topology_of;
+use chains::ArcTable;
 use faults::OutOfMemory;
 use outputs::info_text::{write_json, write_lines};
 use query::{
-    Edges, LayerFault, borders, neighbors as lists_of_neighbors, write_layer, write_mesh,
-    write_neighbor_ids, write_neighbors,
+    Edges, LayerFault, QueryFault, borders, borders_by, neighbors as lists_of_neighbors,
+    neighbors_by, write_layer, write_mesh, write_neighbor_ids, write_neighbors,
+    write_neighbors_keyed,
 };
 use sinks::{Kept, Sink, WriteFault};
 use std::alloc::Global;
@@ -40,11 +49,42 @@ fn text_of_layer(alloc: Global, topology: &Topology, layer: &str) -> Result<Vec<
 #[tactic(auto, using(crate::proofs::Texts::feature_answer, crate::proofs::PartRefusals::name_question, crate::proofs::PartRefusals::text_question, crate::proofs::PartRefusals::layer_question))]
 pub(crate) fn feature(alloc: Global, text: &[u8], layer: &[u8]) -> Result<Vec<u8>, CallRefusal>
     ensures features { IfOk result (λ t. IsFeatureText text.now layer.now t.items) }
-    ensures refused { IfErr result (IsQuestionRefusal ⊥ false text.now (Some layer.now)) }
+    ensures refused { IfErr result (IsQuestionRefusal ⊥ text.now (Some layer.now)) }
 {
     let layer = name_of(0, layer)?;
     let topology = topology_of(alloc, 0, text)?;
     text_of_layer(alloc, &topology, layer)
+}
+
+/// The options of `noshinka_mesh`. `c/noshinka.h` says what each means.
+#[repr(C)]
+#[derive(Drop)]
+pub struct MeshOptions<'a> {
+    pub size: usize,
+    pub layer: &'a [u8],
+    pub property: &'a [u8],
+    pub scope: u32,
+    pub edges: u32,
+}
+
+/// The bytes of the options of a mesh.
+const MESH_SIZE: usize = size_of::<MeshOptions<'static>>();
+
+/// The borders that are asked for: those at which a property differs, where one is named, else some edges.
+fn lines_asked(
+    alloc: Global,
+    topology: &Topology,
+    layer: Option<&str>,
+    by: Option<&str>,
+    edges: Edges,
+) -> Result<ArcTable, QueryFault>
+    ensures layer { ForItsMap topology.now (λ m. (result ≡ Err MissingLayer) ↔ IsMissing m (option_map (λ n. n.now) layer.entry)) }
+    ensures lines { IfOk result (AreAskedBorders topology.now (option_map (λ n. n.now) layer.entry) (option_map (λ n. n.now) by.entry) edges) }
+{
+    match by {
+        Some(property) => borders_by(alloc, topology, layer, property),
+        None => borders(alloc, topology, layer, edges),
+    }
 }
 
 /// The text of some borders of a topology.
@@ -52,12 +92,13 @@ fn text_of_borders(
     alloc: Global,
     topology: &Topology,
     layer: Option<&str>,
+    by: Option<&str>,
     edges: Edges,
 ) -> Result<Vec<u8>, CallRefusal>
-    ensures text { IfOk result (λ t. IsBordersText topology.now (option_map (λ n. n.now) layer.entry) edges t.items) }
+    ensures text { IfOk result (λ t. IsBordersText topology.now (option_map (λ n. n.now) layer.entry) (option_map (λ n. n.now) by.entry) edges t.items) }
     ensures refused { IfErr result (IsLayerRefusal topology.now (option_map (λ n. n.now) layer.entry)) }
 {
-    let lines = borders(alloc, topology, layer, edges)?;
+    let lines = lines_asked(alloc, topology, layer, by, edges)?;
     let mut kept = Kept::new(alloc);
     match write_mesh(&topology.grid(), &lines, &mut kept) {
         Ok(()) => Ok(kept.into_bytes()),
@@ -65,23 +106,24 @@ fn text_of_borders(
     }
 }
 
-/// The borders of a layer of a topology's text, or of all layers, as a GeoJSON MultiLineString. `scope` is 0 for all
-/// layers, 1 for the layer; `edges` is 0 for all, 1 for those between two features, 2 for those of one.
-#[tactic(auto, using(crate::proofs::Texts::mesh_answer, crate::proofs::PartRefusals::scope_question, crate::proofs::PartRefusals::choice_question, crate::proofs::PartRefusals::text_question, crate::proofs::PartRefusals::layer_question))]
+/// The borders of a layer of a topology's text, or of all layers, as a GeoJSON MultiLineString.
+#[tactic(auto, using(crate::proofs::Asked::mesh_size, crate::proofs::Asked::mesh_edges, crate::proofs::Asked::mesh_scope, crate::proofs::Asked::mesh_property, crate::proofs::Asked::mesh_text_refused))]
 pub(crate) fn mesh(
     alloc: Global,
+    options: &MeshOptions<'_>,
     text: &[u8],
-    scope: u32,
-    layer: &[u8],
-    edges: u32,
 ) -> Result<Vec<u8>, CallRefusal>
-    ensures borders { IfOk result (λ t. IsMeshText text.now (scope_of scope layer.now) (edges_of edges) t.items) }
-    ensures refused { IfErr result (IsQuestionRefusal ((2 ≤ scope) ⊎ (3 ≤ edges)) false text.now (scope_of scope layer.now)) }
+    ensures borders { IfOk result (λ t. IsMeshText options.now text.now t.items) }
+    ensures refused { IfErr result (IsMeshRefusal options.now text.now) }
 {
-    let layer = scope_named(scope, layer)?;
-    let edges = edges_named(edges)?;
+    if options.size != MESH_SIZE {
+        return Err(CallRefusal::BadChoice);
+    }
+    let edges = edges_named(options.edges)?;
+    let layer = scope_named(options.scope, options.layer)?;
+    let by = name_if(options.edges == 3, options.property)?;
     let topology = topology_of(alloc, 0, text)?;
-    text_of_borders(alloc, &topology, layer, edges)
+    text_of_borders(alloc, &topology, layer, by, edges)
 }
 
 /// The text of lists of places.
@@ -110,10 +152,61 @@ fn text_of_id_lists(
     }
 }
 
+/// The text of lists of places as an object, from the id of each geometry to those at its places.
+fn text_of_keyed_lists(
+    alloc: Global,
+    geometries: &[Geom],
+    lists: &[Vec<usize>],
+) -> Result<Vec<u8>, OutOfMemory>
+    ensures { IfOk result (λ t. t.items ≡ keyed_text geometries.now (map (λ l. l.items) lists.now)) }
+{
+    let mut kept = Kept::new(alloc);
+    match write_neighbors_keyed(geometries, lists, &mut kept) {
+        Ok(()) => Ok(kept.into_bytes()),
+        Err(_) => Err(OutOfMemory),
+    }
+}
+
+/// The options of `noshinka_neighbors`. `c/noshinka.h` says what each means.
+#[repr(C)]
+#[derive(Drop)]
+pub struct NeighborsOptions<'a> {
+    pub size: usize,
+    pub property: &'a [u8],
+    pub kind: u32,
+    pub lists: u32,
+}
+
+/// The bytes of the options of neighbours.
+const NEIGHBORS_SIZE: usize = size_of::<NeighborsOptions<'static>>();
+
+/// Whether the options have the size of these, and each number stands for a choice.
+fn are_neighbors_choices(options: &NeighborsOptions<'_>) -> bool
+    ensures { result ≡ are_neighbors_choices options.now }
+{
+    options.size == NEIGHBORS_SIZE && options.kind < 2 && options.lists < 3
+}
+
+/// The neighbours that are asked for: those that differ in a property, where one is named, else all.
+fn neighbors_asked(
+    alloc: Global,
+    topology: &Topology,
+    layer: &str,
+    by: Option<&str>,
+) -> Result<Vec<Vec<usize>>, QueryFault>
+    ensures layer { ForItsMap topology.now (λ m. (result ≡ Err MissingLayer) ↔ (¬ IsTrue (layers.contains_key m layer.now))) }
+    ensures neighbors { IfOk result (λ lists. ForItsMap topology.now (λ m. AreAskedNeighbors (option_map (λ n. n.now) by.entry) (set.items (features_at m layer.now)) (map (λ l. l.items) lists.items))) }
+{
+    match by {
+        Some(property) => neighbors_by(alloc, topology, layer, property),
+        None => lists_of_neighbors(alloc, topology, layer),
+    }
+}
+
 /// The geometries of a layer, each of which has an id.
 fn geometries_with_ids<'a>(topology: &'a Topology, layer: &str) -> Result<&'a [Geom], CallRefusal>
     ensures geometries { IfOk result (λ gs. IsOfLayerNamed topology.now.layers layer.now gs.now) }
-    ensures refused { IfErr result (IsIdsRefusal topology.now layer.now true) }
+    ensures refused { IfErr result (IsIdsRefusal topology.now layer.now) }
 {
     let Some(geometries) = topology.geometries(layer) else {
         return Err(CallRefusal::NoLayer);
@@ -124,48 +217,67 @@ fn geometries_with_ids<'a>(topology: &'a Topology, layer: &str) -> Result<&'a [G
     Ok(geometries)
 }
 
-/// The text of the neighbours of each feature of a layer, by places or by ids.
-#[tactic(auto, using(crate::proofs::PartRefusals::layer_ids))]
+/// The text of lists of places by the ids of the geometries: as lists, or as an object.
+fn text_by_ids(
+    alloc: Global,
+    geometries: &[Geom],
+    lists: &[Vec<usize>],
+    is_keyed: bool,
+) -> Result<Vec<u8>, OutOfMemory>
+    ensures { IfOk result (λ t. t.items ≡ ids_text is_keyed geometries.now (map (λ l. l.items) lists.now)) }
+{
+    if is_keyed {
+        text_of_keyed_lists(alloc, geometries, lists)
+    } else {
+        text_of_id_lists(alloc, geometries, lists)
+    }
+}
+
+/// The text of the neighbours of each feature of a layer: by places for 0, by ids for 1, as an object by ids for 2.
+#[tactic(auto, using(crate::proofs::Asked::lists_not_asked))]
 fn text_of_neighbors(
     alloc: Global,
     topology: &Topology,
     layer: &str,
-    is_by_ids: bool,
+    by: Option<&str>,
+    form: u32,
 ) -> Result<Vec<u8>, CallRefusal>
-    ensures text { IfOk result (λ t. IsListsText topology.now layer.now is_by_ids t.items) }
-    ensures refused { IfErr result (IsIdsRefusal topology.now layer.now is_by_ids) }
+    ensures text { IfOk result (λ t. IsListsText topology.now layer.now (option_map (λ n. n.now) by.entry) form t.items) }
+    ensures refused { IfErr result (IsListsRefusal topology.now layer.now form) }
 {
-    let lists = lists_of_neighbors(alloc, topology, layer)?;
-    if is_by_ids {
-        let geometries = geometries_with_ids(topology, layer)?;
-        Ok(text_of_id_lists(alloc, geometries, lists.as_slice())?)
-    } else {
-        Ok(text_of_lists(alloc, lists.as_slice())?)
+    let lists = neighbors_asked(alloc, topology, layer, by)?;
+    if form == 0 {
+        return Ok(text_of_lists(alloc, lists.as_slice())?);
     }
+    let geometries = geometries_with_ids(topology, layer)?;
+    Ok(text_by_ids(alloc, geometries, lists.as_slice(), form == 2)?)
 }
 
-/// The neighbours of each feature of a layer of a topology's text, as lists of places, or of ids where `ids` is 1.
-#[tactic(auto, using(crate::proofs::Texts::neighbors_answer, crate::proofs::PartRefusals::name_question, crate::proofs::PartRefusals::choice_question, crate::proofs::PartRefusals::text_question, crate::proofs::PartRefusals::ids_question))]
+/// The neighbours of each feature of a layer of a topology's text.
+#[tactic(auto, using(crate::proofs::Asked::neighbors_choices, crate::proofs::Asked::neighbors_property, crate::proofs::Asked::neighbors_name, crate::proofs::Asked::neighbors_text_refused))]
 pub(crate) fn neighbors(
     alloc: Global,
+    options: &NeighborsOptions<'_>,
     text: &[u8],
     layer: &[u8],
-    ids: u32,
 ) -> Result<Vec<u8>, CallRefusal>
-    ensures neighbors { IfOk result (λ t. IsNeighborsAnswer text.now layer.now (nat_eq ids 1) t.items) }
-    ensures refused { IfErr result (IsQuestionRefusal (2 ≤ ids) (nat_eq ids 1) text.now (Some layer.now)) }
+    ensures neighbors { IfOk result (λ t. IsNeighborsAnswer options.now text.now layer.now t.items) }
+    ensures refused { IfErr result (IsNeighborsRefusal options.now text.now layer.now) }
 {
-    let is_by_ids = flag(ids)?;
+    if !are_neighbors_choices(options) {
+        return Err(CallRefusal::BadChoice);
+    }
+    let by = name_if(options.kind == 1, options.property)?;
     let layer = name_of(0, layer)?;
     let topology = topology_of(alloc, 0, text)?;
-    text_of_neighbors(alloc, &topology, layer, is_by_ids)
+    text_of_neighbors(alloc, &topology, layer, by, options.lists)
 }
 
 /// What a topology's text is made of, as lines, or as JSON where `json` is 1.
 #[tactic(auto, using(crate::proofs::Texts::info_answer, crate::proofs::PartRefusals::choice_question, crate::proofs::PartRefusals::text_question))]
 pub(crate) fn info(alloc: Global, text: &[u8], json: u32) -> Result<Vec<u8>, CallRefusal>
     ensures made { IfOk result (λ t. IsInfoAnswer text.now (nat_eq json 1) t.items) }
-    ensures refused { IfErr result (IsQuestionRefusal (2 ≤ json) false text.now None) }
+    ensures refused { IfErr result (IsQuestionRefusal (2 ≤ json) text.now None) }
 {
     let is_json = flag(json)?;
     let topology = topology_of(alloc, 0, text)?;

@@ -12,6 +12,7 @@ use faults::{Fault, FaultKind, OutOfMemory, Step};
 use outputs::built_text::BuildFault;
 use query::QueryFault;
 use refine::MergeFault;
+use rounded_maps::MapsFault;
 use sinks::Kept;
 use sinks::path_text::PathText;
 use sinks::written::Written;
@@ -20,13 +21,13 @@ use std::alloc::{AllocError, AllocFailed, Global};
 /// Why a call gives no answer.
 #[derive(Drop)]
 pub(crate) enum CallRefusal {
-    /// A number of the grid is outside its limits.
+    /// A number of the grid is outside its limits, or a step or a unit is none.
     BadGrid,
-    /// The name of the layer at this place is not UTF-8.
+    /// The name at this place is not UTF-8.
     BadName(usize),
-    /// A number that stands for a choice stands for none.
+    /// A number that stands for a choice stands for none, or options have another size.
     BadChoice,
-    /// Ids are asked for, and a feature of the layer has none.
+    /// Ids are asked for, and a feature of the layer has none, or two have one as names of members.
     NoId,
     /// The text at this place is refused. The fault is never out of memory.
     Text(usize, Fault),
@@ -175,6 +176,19 @@ impl From<MergeFault> for CallRefusal {
             MergeFault::Text(place, fault) => CallRefusal::Text(place, fault),
             MergeFault::OtherGrid(place) => CallRefusal::OtherGrid(place),
             MergeFault::OutOfMemory => CallRefusal::OutOfMemory,
+        }
+    }
+}
+
+impl From<MapsFault> for CallRefusal {
+    ghost use Rattle.noshinka.specs.Why.{of_maps};
+
+    ghost from_gives = { λ e r. r ≡ of_maps e };
+
+    fn from(fault: MapsFault) -> CallRefusal {
+        match fault {
+            MapsFault::Text(place, fault) => CallRefusal::Text(place, fault),
+            MapsFault::OutOfMemory => CallRefusal::OutOfMemory,
         }
     }
 }

@@ -1,99 +1,194 @@
-//! From GeoJSON in decimal numbers to GeoJSON in whole numbers of steps.
-ghost use Rattle.noshinka.specs.Snapped.{AreRules, AreRulesWithin, IsSize, IsSnapped, IsSnapRefusal, IsStep};
-ghost use Rattle.rounded_maps.specs.Written.{of_units};
-ghost use Rattle.std.specs.Prelude.{◌≡◌, ◌↔◌, IfErr, IfOk, IfSome, IsSome, pos};
+//! From texts in decimal numbers to the topology or the features of what they are rounded to.
+ghost use Rattle.noshinka.specs.Borrowed.{borrowed_sources};
+ghost use Rattle.noshinka.specs.Rounding.{IsFilesRefusal, IsMade, IsRoundAnswer, IsRoundRefusal, IsSourcesRefusal, features_in, files_as, names_in};
+ghost use Rattle.noshinka.specs.ReportText.{report_if};
+ghost use Rattle.outputs.specs.BuiltText.Maps.{borrowed_texts};
+ghost use Rattle.rounded_maps.specs.Files.{file_of, files_of};
+ghost use Rattle.rounded_maps.specs.Written.{map_text};
+ghost use Rattle.std.specs.Prelude.{◌≡◌, ◌++◌, IfErr, IfOk, false, map, nat_eq, true};
+ghost use Rattle.topo.specs.OfMap.{seen_parts};
+ghost use Rattle.topo_io.specs.TopologyText.{topology_text};
 
+use crate::borrowed::{Source, borrow_sources};
 use crate::refusal::CallRefusal;
-use attributes::{AttributeRules, Reals};
-use decimal_maps::{DecimalGrid, MapRules};
-use fixing::{Collapsed, FixingRules, Rewind};
+use crate::report_text::write_report;
+use crate::round_options::{RoundOptions, are_choices};
+use crate::rules::{names_of, rules_of, units_of};
+use faults::OutOfMemory;
 use grid::Grid;
-use grid::limits::GREATEST_GRID_NUMBER;
-use numerals::DecimalStep;
-use rounded_maps::{RoundingRules, collection_text, round_map};
+use rounded_maps::{
+    BuildRules, Rounded, RoundedFeature, RoundedMap, Source as FileSource, build_maps, round_maps,
+    write_collection,
+};
+use sinks::written::Written;
+use sinks::{Kept, Sink, WriteFault};
 use std::alloc::Global;
+use topo::Topology;
 
-/// The step for degrees.
-const DEGREE_STEP: &[u8] = b"0.000001";
+/// A topology as its canonical text.
+#[derive(Clone, Copy)]
+struct CanonicalText<'a>(&'a Topology);
 
-/// What is fixed.
-const FIXING: FixingRules = FixingRules {
-    collapsed: Collapsed::Null,
-    closes_rings: false,
-    splits_folded: true,
-    splits_collections: true,
-    rewind: Rewind::Keep,
-};
+impl<'a> Written for CanonicalText<'a> {
+    ghost text = { λ t. topology_text (seen_parts t.0.now) };
 
-/// What becomes of ids and properties.
-const ATTRIBUTES: AttributeRules<'static> = AttributeRules {
-    id: None,
-    scales: &[],
-    reals: Reals::Text,
-};
-
-/// The rules for the step of a numeral. So many steps a number may be from 0.
-fn rules_within(numeral: &[u8], greatest_x: u64, greatest_y: u64) -> Option<RoundingRules<'static>>
-    ensures rules { IfSome result (AreRulesWithin numeral.now greatest_x greatest_y) }
-    ensures exact { IsSome result ↔ IsSize numeral.now }
-{
-    let step = DecimalStep::parse(numeral)?;
-    let grid = DecimalGrid {
-        step,
-        greatest_x,
-        greatest_y,
-        refuses_heights: false,
-        measures: false,
-    };
-    Some(RoundingRules {
-        map: MapRules {
-            grid,
-            attributes: ATTRIBUTES,
-        },
-        fixing: FIXING,
-        numbers: false,
-        layer: None,
-    })
-}
-
-/// The rules for a step, or for degrees if its text is empty.
-fn rules_for(step: &[u8]) -> Option<RoundingRules<'static>>
-    ensures rules { IfSome result (AreRules step.now) }
-    ensures exact { IsSome result ↔ IsStep step.now }
-{
-    if step.is_empty() {
-        return rules_within(DEGREE_STEP, 180_000_000, 90_000_000);
-    }
-    let greatest = GREATEST_GRID_NUMBER as u64;
-    rules_within(step, greatest, greatest)
-}
-
-/// The grid of whole numbers of steps.
-fn whole_grid() -> Grid
-    ensures { result ≡ of_units (pos 1) }
-{
-    match Grid::new(1, 1, 0, 0) {
-        Some(grid) => grid,
-        None => unreachable!(),
+    fn write<W: Sink>(&self, sink: &mut W) -> Result<(), WriteFault> {
+        topo_io::write(self.0, sink)
     }
 }
 
-/// The features of a GeoJSON text as a FeatureCollection, with each coordinate replaced by the nearest whole number of steps, and
-/// each feature fixed: what `togrid` prints. The step is a numeral without a sign, or empty for degrees.
-#[tactic(auto, using(crate::proofs::Snaps::bad_step, crate::proofs::Snaps::not_rounded))]
-pub(crate) fn snap(alloc: Global, text: &[u8], step: &[u8]) -> Result<Vec<u8>, CallRefusal>
-    ensures snapped { IfOk result (λ t. IsSnapped step.now text.now t.items) }
-    ensures refused { IfErr result (IsSnapRefusal step.now text.now) }
+/// Features as a FeatureCollection, in the absolute numbers of a grid.
+#[derive(Clone, Copy)]
+struct CollectionText<'a>(&'a [RoundedFeature], &'a Grid);
+
+impl<'a> Written for CollectionText<'a> {
+    ghost text = { λ c. map_text c.1.now c.0.now };
+
+    fn write<W: Sink>(&self, sink: &mut W) -> Result<(), WriteFault> {
+        write_collection(self.0, self.1, sink)
+    }
+}
+
+/// The report, where it is asked for, and then a text.
+fn text_with_report<T: Written>(
+    alloc: Global,
+    reports: bool,
+    rounded: &Rounded,
+    body: &T,
+) -> Result<Vec<u8>, OutOfMemory>
+    ensures { IfOk result (λ t. t.items ≡ report_if reports rounded.now ++ T.text body.now) }
 {
-    let Some(rules) = rules_for(step) else {
+    let mut kept = Kept::new(alloc);
+    write_report(alloc, reports, rounded, &mut kept)?;
+    match body.write(&mut kept) {
+        Ok(()) => Ok(kept.into_bytes()),
+        Err(_) => Err(OutOfMemory),
+    }
+}
+
+/// The features of maps, one behind another.
+fn all_features(alloc: Global, maps: Vec<RoundedMap>) -> Result<Vec<RoundedFeature>, OutOfMemory>
+    ensures { IfOk result (λ v. v.items ≡ features_in maps.items) }
+{
+    let mut features = Vec::new(alloc);
+    for map in maps {
+        let RoundedMap {
+            features: mut more,
+            ..
+        } = map;
+        features.append(&mut more)?;
+    }
+    Ok(features)
+}
+
+/// All features of files as a FeatureCollection, behind the report, where it is asked for.
+#[tactic(auto, using(crate::proofs::Roundings::files_refused, crate::proofs::Roundings::files_memory, crate::proofs::Roundings::features_made))]
+fn features_text(
+    alloc: Global,
+    names: &[&str],
+    files: Vec<FileSource<&[u8]>>,
+    rules: &BuildRules<'_>,
+    reports: bool,
+) -> Result<Vec<u8>, CallRefusal>
+    ensures made { IfOk result (λ t. IsMade true reports rules.now (map (λ n. n.now) names.now) (files_of (λ b. b.now) files.entry.items) t.items) }
+    ensures refused { IfErr result (IsFilesRefusal rules.now (files_of (λ b. b.now) files.entry.items)) }
+{
+    let (maps, rounded) = round_maps(alloc, names, files, rules)?;
+    let features = all_features(alloc, maps)?;
+    let body = CollectionText(features.as_slice(), &rules.grid);
+    Ok(text_with_report(alloc, reports, &rounded, &body)?)
+}
+
+/// The canonical text of the topology of files, behind the report, where it is asked for.
+#[tactic(auto, using(crate::proofs::Roundings::files_refused, crate::proofs::Roundings::files_memory, crate::proofs::Roundings::topology_made))]
+fn topology_text_of(
+    alloc: Global,
+    names: &[&str],
+    files: Vec<FileSource<&[u8]>>,
+    rules: &BuildRules<'_>,
+    reports: bool,
+) -> Result<Vec<u8>, CallRefusal>
+    ensures made { IfOk result (λ t. IsMade false reports rules.now (map (λ n. n.now) names.now) (files_of (λ b. b.now) files.entry.items) t.items) }
+    ensures refused { IfErr result (IsFilesRefusal rules.now (files_of (λ b. b.now) files.entry.items)) }
+{
+    let (topology, rounded) = build_maps(alloc, names, files, rules)?;
+    let body = CanonicalText(&topology);
+    Ok(text_with_report(alloc, reports, &rounded, &body)?)
+}
+
+/// The names of texts.
+fn names_in<'a>(alloc: Global, texts: &[(&'a str, &'a [u8])]) -> Result<Vec<&'a str>, OutOfMemory>
+    ensures { IfOk result (λ v. map (λ n. n.now) v.items ≡ names_in (borrowed_texts texts.now)) }
+{
+    let mut names = Vec::with_capacity(alloc, texts.len())?;
+    for text in texts {
+        names.push(text.0)?;
+    }
+    Ok(names)
+}
+
+/// Texts as files, each a sequence of texts or one, whose names count for the only object of a topology or not.
+fn files_in<'a>(
+    alloc: Global,
+    texts: &[(&'a str, &'a [u8])],
+    is_sequence: bool,
+    is_named: bool,
+) -> Result<Vec<FileSource<&'a [u8]>>, OutOfMemory>
+    ensures { IfOk result (λ v. files_of (λ b. b.now) v.items ≡ map (λ s. file_of is_sequence is_named s.1) (borrowed_texts texts.now)) }
+{
+    let mut files = Vec::with_capacity(alloc, texts.len())?;
+    for text in texts {
+        files.push(FileSource {
+            bytes: text.1,
+            is_sequence,
+            is_named,
+        })?;
+    }
+    Ok(files)
+}
+
+/// What is made of texts by the rules that the options stand for.
+#[tactic(auto, using(crate::proofs::Roundings::sources_made, crate::proofs::Roundings::sources_name, crate::proofs::Roundings::sources_memory, crate::proofs::Roundings::sources_files))]
+fn round_sources(
+    alloc: Global,
+    options: &RoundOptions<'_>,
+    rules: &BuildRules<'_>,
+    sources: &[Source<'_>],
+) -> Result<Vec<u8>, CallRefusal>
+    ensures made { IfOk result (λ t. IsMade (nat_eq options.now.format 1) (nat_eq options.now.report 1) rules.now (names_in (borrowed_sources sources.now)) (files_as options.now (borrowed_sources sources.now)) t.items) }
+    ensures refused { IfErr result (IsSourcesRefusal options.now rules.now (borrowed_sources sources.now)) }
+{
+    let texts = borrow_sources(alloc, sources)?;
+    let names = names_in(alloc, texts.as_slice())?;
+    let (is_sequence, is_named) = (options.sequences == 1, options.renames == 1);
+    let files = files_in(alloc, texts.as_slice(), is_sequence, is_named)?;
+    let reports = options.report == 1;
+    if options.format == 1 {
+        features_text(alloc, names.as_slice(), files, rules, reports)
+    } else {
+        topology_text_of(alloc, names.as_slice(), files, rules, reports)
+    }
+}
+
+/// The topology of texts, or their features, rounded and fixed as the options say, behind the report, where it is asked for.
+#[tactic(auto, using(crate::proofs::Roundings::round_choice, crate::proofs::Roundings::round_units, crate::proofs::Roundings::round_names, crate::proofs::Roundings::round_refused, crate::proofs::Roundings::round_answer))]
+pub(crate) fn round(
+    alloc: Global,
+    options: &RoundOptions<'_>,
+    sources: &[Source<'_>],
+) -> Result<Vec<u8>, CallRefusal>
+    ensures made { IfOk result (λ t. IsRoundAnswer options.now (borrowed_sources sources.now) t.items) }
+    ensures refused { IfErr result (IsRoundRefusal options.now (borrowed_sources sources.now)) }
+{
+    if !are_choices(options) {
+        return Err(CallRefusal::BadChoice);
+    }
+    let Some(units) = units_of(options.step, options.unit) else {
         return Err(CallRefusal::BadGrid);
     };
-    let map = match round_map(alloc, text, false, &rules) {
-        Ok(map) => map,
-        Err(fault) => return Err(CallRefusal::of_text(0, fault)),
-    };
-    match collection_text(alloc, map.features.as_slice(), &whole_grid()) {
-        Ok(text) => Ok(text),
-        Err(_) => Err(CallRefusal::OutOfMemory),
-    }
+    let names = names_of(alloc, options)?;
+    let rules = rules_of(options, &units, &names);
+    // Kit 13f proves a function that owns rules only where it names a place inside each of them.
+    let _attributes = &rules.rounding.map.attributes;
+    round_sources(alloc, options, &rules, sources)
 }

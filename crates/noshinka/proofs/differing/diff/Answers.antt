@@ -11,5 +11,5 @@ returns-clause-made c =
 pub returns-clause-refused : goal.returns-clause-refused
 returns-clause-refused c =
     IfErr-weaker c.text_of_difference.result _ _
-    (λ r is. both_refused c.args.asked.now c.args.old.now c.args.new.now c.in_ok-old.old c.in_ok-new.new c.in_ok-old.ensures.means c.in_ok-new.ensures.means _ c.in_ok-layer.ensures.scope r is)
+    (λ r is. both_refused c.args.options.now c.args.old.now c.args.new.now c.in_ok-old.old c.in_ok-new.new c.in_ok-old.ensures.means c.in_ok-new.ensures.means _ c.in_ok-layer.ensures.scope r is)
     c.text_of_difference.ensures.refused

@@ -1,16 +1,15 @@
-use Rattle.std.proofs.Common.{subst}
-use Rattle.std.proofs.lemmas.Result.{IfOk-weaker}
-use Rattle.noshinka.specs.Answers.{IsBordersText}
-use Rattle.noshinka.specs.Options.{edges_of, scope_of}
-use Rattle.noshinka.proofs.Texts.{mesh_answer}
+use Rattle.std.proofs.lemmas.Result.{IfErr-weaker, IfOk-weaker}
+use Rattle.noshinka.proofs.Asked.{mesh_answer, mesh_layer}
 use Rattle.noshinka.proofs.questions.mesh.Goals as goal
 
 pub returns-clause-borders : goal.returns-clause-borders
 returns-clause-borders c =
-    let whole = c.in_ok-topology.topology in
-    let scope = scope_of c.args.scope c.args.layer.now in
     IfOk-weaker c.text_of_borders.result _ _
-    (λ t is. mesh_answer c.args.text.now scope (edges_of c.args.edges) t.items whole c.in_ok-topology.ensures.means
-    (subst (λ e. IsBordersText whole scope e t.items) c.in_ok-edges.ensures.edges
-    (subst (λ s. IsBordersText whole s c.in_ok-edges.edges t.items) c.in_ok-layer.ensures.scope is)))
+    (λ t is. mesh_answer c.args.options.now c.args.text.now t.items c.in_ok-topology.topology c.in_ok-topology.ensures.means c.in_ok-layer.ensures.scope c.in_ok-by.ensures.name c.in_ok-edges.ensures.edges is)
     c.text_of_borders.ensures.text
+
+pub returns-clause-refused : goal.returns-clause-refused
+returns-clause-refused c =
+    IfErr-weaker c.text_of_borders.result _ _
+    (λ r is. mesh_layer c.args.options.now c.args.text.now c.in_ok-topology.topology c.in_ok-topology.ensures.means _ c.in_ok-layer.ensures.scope r is)
+    c.text_of_borders.ensures.refused

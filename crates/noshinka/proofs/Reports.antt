@@ -1,0 +1,27 @@
+-- Texts of reports.
+use Rattle.std.proofs.Common.{◌≡◌, ◌∙◌, ◌++◌, ◌∷◌, [], ℕ, List, ap, codes, map, refl}
+use Rattle.rounded_maps.specs.declared.building.Rounded.{Rounded}
+use Rattle.rounded_maps.specs.declared.equal.EqualFeatures.{EqualFeatures}
+use Rattle.rounded_maps.specs.declared.files.Origin.{Origin}
+use Rattle.rounded_maps.specs.declared.outcome.Outcome.{Outcome}
+use Rattle.sinks.specs.Texts.{after_commas, bracketed, joined, list_text}
+use Rattle.noshinka.specs.ReportParts.{map_origin, map_origin_text}
+use Rattle.noshinka.specs.ReportText.{Joins, Shares, equal_of, joined_of, origin_of, place_text, report_line, report_of, shared_of}
+use Rattle.noshinka.specs.declared.report_text.MapOrigin.{MapOrigin}
+
+after_map : (ms : List MapOrigin) → after_commas map_origin_text ms ≡ after_commas place_text (map map_origin ms)
+after_map [] = refl
+after_map (m ∷ ms) = ap (λ t. (codes "," ++ map_origin_text m) ++ t) (after_map ms)
+
+joined_map : (ms : List MapOrigin) → joined map_origin_text ms ≡ joined place_text (map map_origin ms)
+joined_map [] = refl
+joined_map (m ∷ ms) = ap (λ t. map_origin_text m ++ t) (after_map ms)
+
+-- the list of origins, of which these are the spelled ones
+pub origins_text : (ms : List MapOrigin) (os : List Origin) → map map_origin ms ≡ map origin_of os → list_text map_origin_text ms ≡ list_text place_text (map origin_of os)
+origins_text ms os e = ap bracketed (joined_map ms) ∙ ap (list_text place_text) e
+
+-- the report of its parts
+pub line_is : (r : Rounded) (ms : List MapOrigin) (outcomes : List Outcome) (equal : List EqualFeatures) (joins : Joins) (shares : Shares) → map map_origin ms ≡ map origin_of r.origins.items →
+    outcomes ≡ r.outcomes.items → equal ≡ equal_of r.equal → joins ≡ joined_of r.clusters → shares ≡ shared_of r.counts → report_of (list_text map_origin_text ms) outcomes equal joins shares ≡ report_line r
+line_is r ms outcomes equal joins shares a b c d e = λ i. report_of (origins_text ms r.origins.items a i) (b i) (c i) (d i) (e i)

@@ -1,0 +1,396 @@
+//! What became of maps, as a JSON object on a line.
+ghost use Rattle.noshinka.specs.ReportParts.{joined_counts, line_text, map_origin, map_origin_text, shared_counts};
+ghost use Rattle.noshinka.specs.ReportText.{counts_text, equal_of, fix_counts, fixed_text, joined_of, joined_text, member_text, numbers_text, origin_of, outcome_text, pair_or_null, position_of, position_text, report_if, report_line, shared_of, shared_text};
+ghost use Rattle.shapes.specs.Parts.{spelled_text};
+ghost use Rattle.sinks.specs.InMemory.{kept_seen};
+ghost use Rattle.sinks.specs.Writes.{TookAll};
+ghost use Rattle.std.specs.Fmt.{decimal};
+ghost use Rattle.std.specs.Option.{option_map};
+ghost use Rattle.std.specs.Prelude.{◌≡◌, IfOk, OnOk, map, string_bytes};
+
+use faults::OutOfMemory;
+use fixing::{FeatureFixes, Fixes};
+use grid::Pos;
+use itoa::Buffer;
+use rounded_maps::{EqualFeatures, Origin, Outcome, Rounded};
+use shapes::Spelled;
+use sinks::written::{Listed, Notation, Pair, Text, Then, Written};
+use sinks::{Kept, Sink, WriteFault, put};
+use snapping::nearly_shared::{Clusters, VertexCounts};
+use std::alloc::Global;
+
+/// A number in decimal digits.
+#[derive(Clone, Copy)]
+struct Digits(u128);
+
+impl Written for Digits {
+    ghost text = { λ d. decimal d.0 };
+
+    fn write<W: Sink>(&self, sink: &mut W) -> Result<(), WriteFault> {
+        let mut buffer = Buffer::new();
+        put(sink, buffer.format(self.0).as_bytes())
+    }
+}
+
+/// A number behind its name.
+#[derive(Clone, Copy)]
+struct Member<'a>(&'a [u8], u64);
+
+impl<'a> Written for Member<'a> {
+    ghost text = { λ m. member_text m.0.now m.1 };
+
+    fn write<W: Sink>(&self, sink: &mut W) -> Result<(), WriteFault> {
+        Then(Text(self.0), Digits(u128::from(self.1))).write(sink)
+    }
+}
+
+/// Numbers in decimal digits.
+#[derive(Clone, Copy)]
+struct Numerals;
+
+impl Notation<usize> for Numerals {
+    ghost text = { λ _ n. decimal n };
+
+    fn write_value<W: Sink>(&self, value: &usize, sink: &mut W) -> Result<(), WriteFault> {
+        Digits(*value as u128).write(sink)
+    }
+}
+
+/// A feature of which something was fixed: its number, and how much.
+#[derive(Clone, Copy)]
+struct FixedFeatures;
+
+impl Notation<FeatureFixes> for FixedFeatures {
+    ghost text = { λ _ f. fixed_text f };
+
+    fn write_value<W: Sink>(&self, value: &FeatureFixes, sink: &mut W) -> Result<(), WriteFault> {
+        let fixes = &value.fixes;
+        let first = Then(
+            Digits(value.feature as u128),
+            Then(Member(b",", fixes.closed), Member(b",", fixes.collapsed)),
+        );
+        let rest = Then(
+            Member(b",", fixes.folded),
+            Then(Member(b",", fixes.collections), Member(b",", fixes.lost)),
+        );
+        Then(Text(b"["), Then(first, Then(rest, Text(b"]")))).write(sink)
+    }
+}
+
+/// How much was fixed, as members.
+#[derive(Clone, Copy)]
+struct FixCounts<'a>(&'a Fixes);
+
+impl<'a> Written for FixCounts<'a> {
+    ghost text = { λ f. fix_counts f.0.now };
+
+    fn write<W: Sink>(&self, sink: &mut W) -> Result<(), WriteFault> {
+        let fixes = self.0;
+        let first = Then(
+            Member(b",\"closed\":", fixes.closed),
+            Member(b",\"collapsed\":", fixes.collapsed),
+        );
+        let rest = Then(
+            Member(b",\"collections\":", fixes.collections),
+            Member(b",\"lost\":", fixes.lost),
+        );
+        Then(first, Then(Member(b",\"folded\":", fixes.folded), rest)).write(sink)
+    }
+}
+
+/// How many features and positions there are, and what became of numbers.
+#[derive(Clone, Copy)]
+struct MapCounts<'a>(&'a Outcome);
+
+impl<'a> Written for MapCounts<'a> {
+    ghost text = { λ o. counts_text o.0.now };
+
+    fn write<W: Sink>(&self, sink: &mut W) -> Result<(), WriteFault> {
+        let tally = &self.0.tally;
+        let first = Then(
+            Member(b"{\"features\":", self.0.features as u64),
+            Member(b",\"positions\":", tally.positions),
+        );
+        let moves = Then(
+            Member(b",\"moved\":", tally.moved),
+            Member(b",\"furthest\":", tally.furthest),
+        );
+        let rest = Then(
+            Member(b",\"heights\":", tally.heights),
+            Member(b",\"reals\":", self.0.reals),
+        );
+        Then(first, Then(moves, rest)).write(sink)
+    }
+}
+
+/// What became of a map.
+#[derive(Clone, Copy)]
+struct Outcomes;
+
+impl Notation<Outcome> for Outcomes {
+    ghost text = { λ _ o. outcome_text o };
+
+    fn write_value<W: Sink>(&self, value: &Outcome, sink: &mut W) -> Result<(), WriteFault> {
+        let fixed = Listed(value.fixed.as_slice(), &FixedFeatures);
+        let tail = Then(Text(b",\"fixed\":"), Then(fixed, Text(b"}")));
+        Then(MapCounts(value), Then(FixCounts(&value.fixes), tail)).write(sink)
+    }
+}
+
+/// The features that equal an earlier one, of each map.
+#[derive(Clone, Copy)]
+struct EqualLists;
+
+impl Notation<EqualFeatures> for EqualLists {
+    ghost text = { λ _ e. numbers_text e.features.items };
+
+    fn write_value<W: Sink>(&self, value: &EqualFeatures, sink: &mut W) -> Result<(), WriteFault> {
+        Listed(value.features.as_slice(), &Numerals).write(sink)
+    }
+}
+
+/// Where a map is from: the place of its text, and the name that this gives it.
+#[derive(Drop)]
+pub(crate) struct MapOrigin {
+    text: usize,
+    layer: Option<Spelled>,
+}
+
+/// Where maps are from.
+#[derive(Clone, Copy)]
+struct MapOrigins;
+
+impl Notation<MapOrigin> for MapOrigins {
+    ghost text = { λ _ o. map_origin_text o };
+
+    fn write_value<W: Sink>(&self, value: &MapOrigin, sink: &mut W) -> Result<(), WriteFault> {
+        let layer = match &value.layer {
+            Some(layer) => layer.spelling(),
+            None => "null",
+        };
+        let head = Then(Text(b"{\"layer\":"), Text(layer.as_bytes()));
+        let text = Then(Text(b",\"text\":"), Digits(value.text as u128));
+        Then(head, Then(text, Text(b"}"))).write(sink)
+    }
+}
+
+/// The name that a text gives a map, with its spelling.
+fn spelled_layer(alloc: Global, origin: &Origin) -> Result<Option<Spelled>, OutOfMemory>
+    ensures { IfOk result (λ l. option_map spelled_text l ≡ option_map string_bytes origin.now.layer) }
+{
+    match &origin.layer {
+        Some(layer) => Ok(Some(Spelled::new(alloc, layer.as_str())?)),
+        None => Ok(None),
+    }
+}
+
+/// Where maps are from, with the names that texts give them spelled.
+fn spelled_origins(alloc: Global, origins: &[Origin]) -> Result<Vec<MapOrigin>, OutOfMemory>
+    ensures { IfOk result (λ v. map map_origin v.items ≡ map origin_of origins.now) }
+{
+    let mut spelled = Vec::with_capacity(alloc, origins.len())?;
+    for origin in origins {
+        let layer = spelled_layer(alloc, origin)?;
+        spelled.push(MapOrigin {
+            text: origin.text,
+            layer,
+        })?;
+    }
+    Ok(spelled)
+}
+
+/// The numbers of a position.
+fn position_of(position: Pos) -> (i64, i64)
+    ensures { result ≡ position_of position }
+{
+    (position.x(), position.y())
+}
+
+/// A position, or null.
+#[derive(Clone, Copy)]
+struct PositionOrNull(Option<(i64, i64)>);
+
+impl Written for PositionOrNull {
+    ghost text = { λ p. position_text p.0 };
+
+    fn write<W: Sink>(&self, sink: &mut W) -> Result<(), WriteFault> {
+        match self.0 {
+            Some((x, y)) => Pair(x, y).write(sink),
+            None => Text(b"null").write(sink),
+        }
+    }
+}
+
+/// Two positions, or null.
+#[derive(Clone, Copy)]
+struct PairOrNull(Option<((i64, i64), (i64, i64))>);
+
+impl Written for PairOrNull {
+    ghost text = { λ p. pair_or_null p.0 };
+
+    fn write<W: Sink>(&self, sink: &mut W) -> Result<(), WriteFault> {
+        match self.0 {
+            Some((one, other)) => Then(
+                Then(Text(b"["), Pair(one.0, one.1)),
+                Then(Text(b","), Then(Pair(other.0, other.1), Text(b"]"))),
+            )
+            .write(sink),
+            None => Text(b"null").write(sink),
+        }
+    }
+}
+
+/// How many positions were moved to others, how many clusters weren't, and where the first of these is.
+#[derive(Clone, Copy)]
+struct JoinedCounts {
+    joined: usize,
+    wide: usize,
+    first: Option<(i64, i64)>,
+}
+
+fn joined_of(clusters: &Option<Clusters>) -> JoinedCounts
+    ensures { joined_counts result ≡ joined_of clusters.now }
+{
+    match clusters {
+        Some(clusters) => JoinedCounts {
+            joined: clusters.len(),
+            wide: clusters.wide(),
+            first: first_of(clusters.first_wide()),
+        },
+        None => JoinedCounts {
+            joined: 0,
+            wide: 0,
+            first: None,
+        },
+    }
+}
+
+fn first_of(position: Option<Pos>) -> Option<(i64, i64)>
+    ensures { result ≡ option_map position_of position }
+{
+    match position {
+        Some(position) => Some(position_of(position)),
+        None => None,
+    }
+}
+
+impl Written for JoinedCounts {
+    ghost text = { λ j. joined_text (joined_counts j) };
+
+    fn write<W: Sink>(&self, sink: &mut W) -> Result<(), WriteFault> {
+        let counts = Then(
+            Member(b",\"joined\":", self.joined as u64),
+            Member(b",\"too_wide\":", self.wide as u64),
+        );
+        let first = Then(Text(b",\"first_too_wide\":"), PositionOrNull(self.first));
+        Then(counts, first).write(sink)
+    }
+}
+
+/// How many positions are shared and nearly shared, and where the first pair of these is.
+#[derive(Clone, Copy)]
+struct SharedCounts {
+    shared: usize,
+    near: u128,
+    first: Option<((i64, i64), (i64, i64))>,
+}
+
+fn shared_of(counts: &Option<VertexCounts>) -> SharedCounts
+    ensures { shared_counts result ≡ shared_of counts.now }
+{
+    match counts {
+        Some(counts) => SharedCounts {
+            shared: counts.shared,
+            near: counts.near,
+            first: match counts.first {
+                Some((one, other)) => Some((position_of(one), position_of(other))),
+                None => None,
+            },
+        },
+        None => SharedCounts {
+            shared: 0,
+            near: 0,
+            first: None,
+        },
+    }
+}
+
+impl Written for SharedCounts {
+    ghost text = { λ s. shared_text (shared_counts s) };
+
+    fn write<W: Sink>(&self, sink: &mut W) -> Result<(), WriteFault> {
+        let near = Then(Text(b",\"nearly_shared\":"), Digits(self.near));
+        let first = Then(Text(b",\"first_nearly_shared\":"), PairOrNull(self.first));
+        Then(
+            Member(b",\"shared\":", self.shared as u64),
+            Then(near, first),
+        )
+        .write(sink)
+    }
+}
+
+/// The lists of equal features, where they were asked for.
+fn equal_of(equal: &Option<Vec<EqualFeatures>>) -> &[EqualFeatures]
+    ensures { result.now ≡ equal_of equal.now }
+{
+    match equal {
+        Some(equal) => equal.as_slice(),
+        None => &[],
+    }
+}
+
+/// The report of maps, and its line's end.
+#[derive(Clone, Copy)]
+pub(crate) struct ReportLine<'a> {
+    origins: &'a [MapOrigin],
+    outcomes: &'a [Outcome],
+    equal: &'a [EqualFeatures],
+    joined: JoinedCounts,
+    shared: SharedCounts,
+}
+
+impl<'a> Written for ReportLine<'a> {
+    ghost text = { λ r. line_text r };
+
+    fn write<W: Sink>(&self, sink: &mut W) -> Result<(), WriteFault> {
+        let origins = Then(Text(b"{\"maps\":"), Listed(self.origins, &MapOrigins));
+        let outcomes = Then(Text(b",\"outcomes\":"), Listed(self.outcomes, &Outcomes));
+        let equal = Then(Text(b",\"equal\":"), Listed(self.equal, &EqualLists));
+        let lists = Then(origins, Then(outcomes, equal));
+        let counts = Then(self.joined, Then(self.shared, Text(b"}\n")));
+        Then(lists, counts).write(sink)
+    }
+}
+
+/// The report of maps, of which these are the origins.
+fn line_of<'a>(rounded: &'a Rounded, origins: &'a [MapOrigin]) -> ReportLine<'a>
+    requires { map map_origin origins.now ≡ map origin_of rounded.now.origins.items }
+    ensures { line_text result ≡ report_line rounded.now }
+{
+    ReportLine {
+        origins,
+        outcomes: rounded.outcomes.as_slice(),
+        equal: equal_of(&rounded.equal),
+        joined: joined_of(&rounded.clusters),
+        shared: shared_of(&rounded.counts),
+    }
+}
+
+/// Writes the report of maps, and its line's end, where it is asked for.
+pub(crate) fn write_report(
+    alloc: Global,
+    reports: bool,
+    rounded: &Rounded,
+    kept: &mut Kept,
+) -> Result<(), OutOfMemory>
+    ensures { OnOk result (TookAll (kept_seen kept.old) (kept_seen kept.new) (report_if reports rounded.now)) }
+{
+    if !reports {
+        return Ok(());
+    }
+    let origins = spelled_origins(alloc, rounded.origins.as_slice())?;
+    match line_of(rounded, origins.as_slice()).write(kept) {
+        Ok(()) => Ok(()),
+        Err(_) => Err(OutOfMemory),
+    }
+}
