@@ -20,6 +20,7 @@ static int say(noshinka_outcome outcome, const uint8_t *room) {
 
 int main(void) {
     noshinka_grid grid = {1, 1, 0, 0};
+    noshinka_neighbors_options lists = NOSHINKA_NEIGHBORS_OPTIONS;
     noshinka_source squares[2];
     squares[0].layer = squares[1].layer = bytes("a");
     squares[0].text = bytes("{\"type\":\"Polygon\",\"coordinates\":[[[0,0],[1,0],[1,1],[0,1],[0,0]]]}");
@@ -31,7 +32,7 @@ int main(void) {
     int failed = say(built, room);
     noshinka_bytes shards[2] = {{room, built.length}, {room, built.length}};
     failed |= say(noshinka_merge(shards, 2, other, SIZE), other);
-    failed |= say(noshinka_neighbors(room, built.length, (const uint8_t *)"a", 1, 0, other, SIZE), other);
+    failed |= say(noshinka_neighbors(&lists, room, built.length, (const uint8_t *)"a", 1, other, SIZE), other);
     free(other);
     free(room);
     return failed;

@@ -1,11 +1,18 @@
 """Tests of the package: `python3 -m unittest discover -s python/tests`, with NOSHINKA_LIBRARY set or the wheel installed."""
 import collections
 import decimal
+import gzip
 import json
+import os
+import pathlib
 import pickle
+import subprocess
+import sys
+import tempfile
 import threading
 import time
 import unittest
+import warnings
 
 import noshinka
 
@@ -16,7 +23,16 @@ SHARED_EDGE = (
     b'{"geometries":[{"arcs":[[1,-1]],"type":"Polygon"},{"arcs":[[2,-2]],"type":"Polygon"}],"type":"GeometryCollection"}},'
     b'"transform":{"scale":[1,1],"translate":[0,0]},"type":"Topology"}'
 )
+SAME_IDS = SHARED_EDGE.replace(b'[[1,-1]]', b'[[1,-1]],"id":7').replace(b'[[2,-2]]', b'[[2,-2]],"id":7')
 NO_FEATURES = b'{"arcs":[],"objects":{"a":{"geometries":[],"type":"GeometryCollection"}},"transform":{"scale":[1,1],"translate":[0,0]},"type":"Topology"}'
+
+
+WHOLE = (1, 1, 0, 0)
+
+
+def whole(layers, grid=WHOLE):
+    """The topology of texts that are on a grid."""
+    return noshinka.build(layers, grid)
 
 
 def point(x, y, **members):
@@ -44,7 +60,7 @@ class Frame:
 class Number:
     """As numpy's."""
 
-    def item(self):
+    def tolist(self):
         return 7
 
 
@@ -60,88 +76,212 @@ class Texts(unittest.TestCase):
             {"a": {"type": "FeatureCollection", "features": [{"type": "Feature", "geometry": json.loads(it)} for it in (LEFT, RIGHT)]}},
             iter([("a", LEFT), ("a", RIGHT)]),
         ):
-            self.assertEqual(noshinka.build(layers), SHARED_EDGE)
+            self.assertEqual(whole(layers), SHARED_EDGE)
 
     def test_objects_with_ids(self):
-        text = noshinka.build({"districts": Frame()})
+        text = whole({"districts": Frame()})
         self.assertEqual(noshinka.neighbors(text, "districts", ids=True).json(), [["1"], ["0"]])
         features = noshinka.feature(text, "districts").json()["features"]
         self.assertEqual([it["properties"] for it in features], [{"n": 1}, {"n": 2}])
 
     def test_coordinates_alone_are_made_whole(self):
         with self.assertRaises(noshinka.Fault) as told:
-            noshinka.build({"a": point(1.0, 2.0, properties={"height": 2.0})})
+            whole({"a": point(1.0, 2.0, properties={"height": 2.0})})
         self.assertEqual((told.exception.number, told.exception.path), (13, "$/properties"))
         with self.assertRaises(noshinka.Fault) as told:
-            noshinka.build({"a": point(1.5, 2.0)})
+            whole({"a": point(1.5, 2.0)})
         self.assertEqual((told.exception.number, told.exception.path), (5, "$/geometry/coordinates/0"))
 
     def test_numbers_of_numpy(self):
-        text = noshinka.build({"a": point(Number(), 2, properties={"n": Number()})})
+        text = whole({"a": point(Number(), 2, properties={"n": Number()})})
         self.assertEqual(text.json()["objects"]["a"]["geometries"][0]["properties"], {"n": 7})
         self.assertEqual(text.json()["bbox"], [7, 2, 7, 2])
+        self.assertEqual(noshinka.round(point(Number(), 2), 1, unit=1).json()["features"][0]["geometry"]["coordinates"], [7, 2])
 
     def test_given_objects_stay(self):
         given = point(1.0, 2.0)
-        noshinka.build({"a": given})
+        whole({"a": given})
         self.assertEqual(repr(given["geometry"]["coordinates"]), "[1.0, 2.0]")
 
     def test_no_text(self):
         for wrong in (7, None, [LEFT], object()):
             with self.assertRaises(TypeError):
                 noshinka.check(wrong)
-        with self.assertRaises(ValueError):
-            noshinka.build({"a": point(float("nan"), 0)})
+        for wrong in (point(float("nan"), 0), {"type": "FeatureCollection", "features": [float("nan")]}):
+            with self.assertRaises(noshinka.Usage):
+                whole({"a": wrong})
+
+    def test_layers_that_are_called_type(self):
+        self.assertEqual(list(whole({"type": LEFT.decode()}).json()["objects"]), ["type"])
+        with self.assertRaises(noshinka.Fault) as told:
+            noshinka.build({"type": "Square"})
+        self.assertEqual(str(told.exception), "layer: 4 UnknownType $/type")
 
     def test_mappings_are_dicts(self):
         given = collections.ChainMap({"type": "Point"}, {"coordinates": (1, 2)})
-        self.assertEqual(noshinka.build({"a": given}).json()["bbox"], [1, 2, 1, 2])
+        self.assertEqual(whole({"a": given}).json()["bbox"], [1, 2, 1, 2])
 
 
-class Steps(unittest.TestCase):
-    def test_snap(self):
-        for step, wanted in (("degrees", [7438633, 46951083]), ("1e-6", [7438633, 46951083]), (0.5, [15, 94]), (decimal.Decimal("0.1"), [74, 470]), (2, [4, 23])):
-            text = noshinka.snap(point(7.4386325, 46.9510827), step)
+class Rounding(unittest.TestCase):
+    PLACE = point(7.4386325, 46.9510827)
+
+    def test_steps(self):
+        degrees = noshinka.build({"a": self.PLACE})
+        self.assertEqual(degrees.json()["bbox"], [7438633, 46951083, 7438633, 46951083])
+        for step in ("1e-6", 0.000001, decimal.Decimal("0.000001")):
+            self.assertEqual(noshinka.build({"a": self.PLACE}, step=step), degrees)
+        for step, wanted in ((0.5, [15, 94]), (decimal.Decimal("0.1"), [74, 470]), (2, [4, 23])):
+            text = noshinka.round(self.PLACE, step, unit=step)
             self.assertEqual(text.json()["features"][0]["geometry"]["coordinates"], wanted)
-            self.assertEqual(noshinka.build({"a": point(7.4386325, 46.9510827)}, step=step), noshinka.build({"a": text}))
+            self.assertEqual(noshinka.build({"a": self.PLACE}, step=step, unit=step), whole({"a": text}))
 
     def test_ties_go_away_from_zero(self):
         line = {"type": "LineString", "coordinates": [[0.5, -0.5], [1.5, 2.5]]}
         wanted = b'{"features":[{"geometry":{"coordinates":[[1,-1],[2,3]],"type":"LineString"},"properties":{},"type":"Feature"}],"type":"FeatureCollection"}'
-        self.assertEqual(noshinka.snap(line, 1), wanted)
+        self.assertEqual(noshinka.round(line, 1, unit=1), wanted)
 
     def test_heights_and_fractions_in_properties(self):
         given = '{"type":"Feature","bbox":[0,0,1,1],"properties":{"area":8810.0400},"geometry":{"type":"Point","coordinates":[1.0,2.0,540]}}'
         wanted = '{"features":[{"geometry":{"coordinates":[1,2],"type":"Point"},"properties":{"area":"8810.04"},"type":"Feature"}],"type":"FeatureCollection"}'
-        self.assertEqual(noshinka.snap(given, "1").text(), wanted)
+        self.assertEqual(noshinka.round(given, "1", unit="1").text(), wanted)
 
-    def test_place_of_a_fault(self):
+    def test_options(self):
+        properties = {"code": "x", "area": 1.25, "people": 7.0}
+        given = {"type": "FeatureCollection", "features": [point(1, 2, properties=properties), point(1, 2, properties=properties)]}
+
+        def first(**options):
+            found = noshinka.round(given, **options).json()["features"][0]
+            return found.get("id"), found["properties"]
+
+        self.assertEqual(first(), (None, {"area": "1.25", "code": "x", "people": 7}))
+        self.assertEqual(first(id="code"), ("x", {"area": "1.25", "code": "x", "people": 7}))
+        self.assertEqual(first(number=True)[0], 1)
+        self.assertEqual(first(reals="text")[1], {"area": "1.25", "code": "x", "people": "7"})
+        self.assertEqual(first(scales={"area": 10, "people": 100})[1], {"area": 13, "code": "x", "people": 700})
         with self.assertRaises(noshinka.Fault) as told:
-            noshinka.build({"a": [LEFT, point(181, 0)], "b": RIGHT}, step="degrees")
-        fault = told.exception
-        self.assertEqual((fault.number, fault.name, fault.place, fault.path), (6, "OutOfRange", 1, "$/geometry/coordinates/0"))
+            first(reals="refuse")
+        self.assertEqual(told.exception.number, 13)
 
-    def test_what_collapses_is_dropped(self):
-        answer = noshinka.snap({"type": "LineString", "coordinates": [[0, 0], [0.4, 0.4]]}, 1)
-        self.assertEqual([it["geometry"] for it in answer.json()["features"]], [None])
+    def test_what_is_fixed(self):
+        collapsed = {"type": "LineString", "coordinates": [[0, 0], [0.4, 0.4]]}
+        self.assertEqual([it["geometry"] for it in noshinka.round(collapsed, 1).json()["features"]], [None])
+        self.assertEqual(noshinka.round(collapsed, 1, collapsed="drop").json()["features"], [])
+        folded = {"type": "LineString", "coordinates": [[0, 0], [5, 0], [9, 0], [5, 0]]}
+        given = [point(1, 2), {"type": "Polygon", "coordinates": [[[0, 0], [1, 0], [1, 1]]]}, folded, collapsed, {"type": "GeometryCollection", "geometries": [point(1, 2)["geometry"]]}]
+        given[0]["geometry"]["coordinates"].append(3)
+        for it, option, number in zip(given, ("heights", "unclosed", "folded", "collapsed", "collections"), (16, 9, 10, 8, 4)):
+            noshinka.round(it, 1)
+            with self.subTest(option), self.assertRaises(noshinka.Fault) as told:
+                noshinka.round(it, 1, **{option: "refuse"})
+            self.assertEqual(told.exception.number, number)
 
-    def test_the_place_of_an_error(self):
+    def test_rings(self):
+        ring = json.loads(LEFT)["coordinates"][0]
+        for rewind, wanted in (("keep", ring), ("rfc7946", ring), ("d3", ring[::-1])):
+            answer = noshinka.round(LEFT, 1, unit=1, rewind=rewind)
+            self.assertEqual(answer.json()["features"][0]["geometry"]["coordinates"], [wanted])
+
+    def test_snap(self):
+        near = {"type": "Polygon", "coordinates": [[[1.000001, 0], [2, 0], [2, 1], [1.000001, 1], [1.000001, 0]]]}
+        apart, joined = (noshinka.build({"a": [LEFT, near]}, snap=it) for it in (0, 1))
+        self.assertEqual([noshinka.neighbors(it, "a").json() for it in (apart, joined)], [[[], []], [[1], [0]]])
+        self.assertEqual((apart.report.nearly_shared, apart.report.first_nearly_shared), (2, ((1000000, 0), (1000001, 0))))
+        self.assertEqual((joined.report.nearly_shared, joined.report.joined, joined.report.shared), (0, 2, 2))
+
+    def test_topologies_of_other_tools(self):
+        given = {
+            "type": "Topology", "arcs": [[[0, 0], [1000, 500], [500, 0], [-1500, -500]]], "transform": {"scale": [0.0036, 0.0018], "translate": [-180, -90]},
+            "objects": {"land": {"type": "Polygon", "arcs": [[0]], "id": "01001"}, "sea": {"type": "Polygon", "arcs": [[0]], "id": 2}},
+        }  # fmt: skip
+        self.assertEqual(list(noshinka.build(given).json()["objects"]), ["land", "sea"])
+        self.assertEqual(list(noshinka.build(given, layer="land").json()["objects"]), ["land"])
+        self.assertEqual(list(noshinka.build({"coast": given}, layer="land").json()["objects"]), ["coast"])
+        self.assertEqual([it.layer for it in noshinka.build(given).report.maps], ["land", "sea"])
+
+    def test_a_report(self):
+        ring = [[0, 0], [1, 0], [1, 1], [0, 1.0000004]]
+        given = {"type": "FeatureCollection", "features": [
+            {"type": "Feature", "id": 7, "properties": {"a": 0.5}, "geometry": {"type": "Polygon", "coordinates": [ring]}},
+            point(0, 1, properties={"a": 1}), point(0, 1, properties={"a": 1.0}),
+        ]}  # fmt: skip
+        with self.assertWarnsRegex(UserWarning, "^layer a: 1 features equal others and are there once, the first is 2; number=True keeps them$"):
+            answer = noshinka.build({"a": given})
+        report = answer.report
+        (found,) = report.maps
+        self.assertEqual((report.step, report.shared, found.file, found.layer, found.features, found.positions), ("0.000001", 1, None, "a", 3, 6))
+        self.assertEqual((found.moved, found.furthest_steps, found.furthest), (1, decimal.Decimal("0.4"), decimal.Decimal("0.0000004")))
+        self.assertEqual((found.reals, found.closed, found.equal, found.fixed), (1, 1, (2,), (noshinka.Fixed(0, 1, 0, 0, 0, 0),)))
+        with warnings.catch_warnings():
+            warnings.simplefilter("error", UserWarning)
+            self.assertIsNone(noshinka.build({"a": given}, report=False).report)
+            self.assertEqual(noshinka.build({"a": given}, report=False), answer)
+            self.assertEqual(len(noshinka.build({"a": given}, number=True).json()["objects"]["a"]["geometries"]), 3)
+            self.assertEqual(noshinka.round(given).report.maps[0].equal, (2,))
+
+    def test_sequences(self):
+        lines = b'{"type":"Point","coordinates":[1,2]}\n\n{"type":"Point","coordinates":[3,4]}\n'
+        features = noshinka.round(lines, 1, unit=1, seq=True).json()["features"]
+        self.assertEqual([it["geometry"]["coordinates"] for it in features], [[1, 2], [3, 4]])
         with self.assertRaises(noshinka.Fault) as told:
-            noshinka.snap({"type": "Polygon", "coordinates": [[[0, 0], [0.4, 0.4]]]}, 0.1)
-        self.assertEqual((told.exception.name, told.exception.path), ("NotClosed", "$/coordinates/0"))
+            noshinka.round(lines)
+        self.assertEqual(told.exception.name, "NotJson")
+        with self.assertRaises(noshinka.Fault) as told:
+            noshinka.round(b'{"type":"Point","coordinates":[1,2]}\n{"type":"Point"}', seq=True)
+        self.assertEqual((told.exception.path, told.exception.line), ("$/1/coordinates", None))
 
     def test_a_room_that_is_too_small(self):
         text = {"type": "MultiPoint", "coordinates": [[n % 9 + 1, 5] for n in range(5000)]}
-        coordinates = noshinka.snap(text, "1e-9").json()["features"][0]["geometry"]["coordinates"]
+        coordinates = noshinka.round(text, "1e-9", unit="1e-9").json()["features"][0]["geometry"]["coordinates"]
         self.assertEqual(coordinates[:2], [[10**9, 5 * 10**9], [2 * 10**9, 5 * 10**9]])
 
-    def test_no_step(self):
-        for step in (0, -1, "", "1m", 1e13):
-            with self.assertRaises(noshinka.Usage):
-                noshinka.build({"a": LEFT}, step=step)
-        for step in (True, [1], b"1"):
-            with self.assertRaises(TypeError):
-                noshinka.snap(LEFT, step)
+
+class Files(unittest.TestCase):
+    def setUp(self):
+        self.folder = tempfile.TemporaryDirectory()
+        self.addCleanup(self.folder.cleanup)
+
+    def file(self, name, text):
+        path = pathlib.Path(self.folder.name, name)
+        path.write_bytes(text)
+        return path
+
+    def test_names_of_layers(self):
+        left, right = self.file("left.part.json", LEFT), self.file("right.json", RIGHT)
+        for layers, wanted in (
+            (left, ["left"]), ([left, right], ["left", "right"]), ({"a": left}, ["a"]), ({"a": [left, right]}, ["a"]), (LEFT, ["layer"]),
+            ([LEFT, RIGHT], ["layer"]), ([("a", left), ("b", RIGHT)], ["a", "b"]), (json.loads(LEFT), ["layer"]),
+        ):  # fmt: skip
+            self.assertEqual(list(noshinka.build(layers).json()["objects"]), wanted)
+            self.assertEqual(list(whole(layers).json()["objects"]), wanted)
+        with self.assertRaises(noshinka.Usage) as told:
+            noshinka.build([("a", left), right])
+        self.assertEqual(told.exception.argument, "layers")
+
+    def test_sequences_by_name(self):
+        lines = self.file("two.ndjson", b'{"type":"Point","coordinates":[1,2]}\n{"type":"Point","coordinates":[3,4]}\n')
+        self.assertEqual(len(noshinka.build(lines).json()["objects"]["two"]["geometries"]), 2)
+        with self.assertRaises(noshinka.Usage) as told:
+            noshinka.build([lines, LEFT])
+        self.assertEqual(told.exception.argument, "seq")
+
+    def test_topologies(self):
+        one, two = (self.file(name, whole({"a": text})) for name, text in (("one", LEFT), ("two", RIGHT)))
+        self.assertEqual(noshinka.merge([one, two]), SHARED_EDGE)
+        self.assertTrue(noshinka.check(one))
+        self.assertEqual(noshinka.info(one), noshinka.info(whole({"a": LEFT})))
+
+    def test_faults_name_the_file(self):
+        wrong = self.file("wrong.json", b'{"type":"Feature","id":7,"properties":null,\n"geometry":{"type":"Point","coordinates":["x",1]}}')
+        for call in (lambda: noshinka.build({"a": LEFT, "b": wrong}), lambda: whole({"a": LEFT, "b": wrong})):
+            with self.assertRaises(noshinka.Fault) as told:
+                call()
+            fault = told.exception
+            self.assertEqual((fault.place, fault.file, fault.layer, fault.line, fault.column, fault.id), (1, str(wrong), "b", 2, 43, 7))
+            self.assertEqual(str(fault), f"{wrong}: 3 WrongKind $/geometry/coordinates/0")
+
+    def test_no_file(self):
+        with self.assertRaises(FileNotFoundError):
+            noshinka.build(pathlib.Path(self.folder.name, "none"))
 
 
 class Faults(unittest.TestCase):
@@ -155,7 +295,7 @@ class Faults(unittest.TestCase):
 
     def test_the_first_is_the_one_that_is_raised(self):
         with self.assertRaises(noshinka.Fault) as told:
-            noshinka.build({"a": self.TEXT})
+            whole({"a": self.TEXT})
         first = noshinka.faults(self.TEXT, grid=(1, 1, 0, 0)).json()[0]
         self.assertEqual((first["number"], first["name"], first["path"]), (told.exception.number, told.exception.name, told.exception.path))
 
@@ -177,13 +317,13 @@ class Faults(unittest.TestCase):
 
 class Calls(unittest.TestCase):
     def test_merge_in_any_order(self):
-        one, two = (noshinka.build({"a": it}) for it in (LEFT, RIGHT))
+        one, two = (whole({"a": it}) for it in (LEFT, RIGHT))
         for texts in ([one, two], (two, one), [one, two, one], [bytearray(two), memoryview(one)], iter([one.json(), two.text()])):
             self.assertEqual(noshinka.merge(texts), SHARED_EDGE)
 
     def test_remove(self):
-        right = noshinka.build({"a": RIGHT})
-        self.assertEqual(noshinka.remove(SHARED_EDGE, right), noshinka.build({"a": LEFT}))
+        right = whole({"a": RIGHT})
+        self.assertEqual(noshinka.remove(SHARED_EDGE, right), whole({"a": LEFT}))
         self.assertEqual(noshinka.remove(SHARED_EDGE, SHARED_EDGE), NO_FEATURES)
 
     def test_check(self):
@@ -210,18 +350,37 @@ class Calls(unittest.TestCase):
             noshinka.neighbors(SHARED_EDGE, "a", ids=True)
 
     def test_diff(self):
-        old = noshinka.build({"a": [point(0, 0, id=1), point(5, 5, id=2)]})
-        new = noshinka.build({"a": [point(0, 1, id=1), point(7, 7, id=3)]})
+        old = whole({"a": [point(0, 0, id=1), point(5, 5, id=2)]})
+        new = whole({"a": [point(0, 1, id=1), point(7, 7, id=3)]})
         self.assertEqual(noshinka.diff(old, new, lines=True).text(), '- "a" 2 {}\n+ "a" 3 {}\n~ "a" 1 geometry: 1 vertex gone, 1 new\n1 added, 1 removed, 1 changed\n')
         self.assertEqual([it["change"] for it in noshinka.diff(old, new, "a").json()["differences"]], ["removed", "added", "changed"])
         self.assertEqual(noshinka.diff(old, new, key="name").json()["removed"], 2)
         self.assertEqual(noshinka.diff(old, old, lines=True), b"0 added, 0 removed, 0 changed\n")
         with self.assertRaises(noshinka.Fault) as told:
             noshinka.diff(old, new, "q")
-        self.assertEqual((told.exception.number, str(told.exception)), (19, "text 0: 19 NoLayer q"))
+        self.assertEqual((told.exception.number, str(told.exception)), (19, "19 NoLayer q"))
         with self.assertRaises(noshinka.Fault) as told:
-            noshinka.diff(old, noshinka.build({}, (10, 10, 0, 0)))
+            noshinka.diff(old, whole({}, (10, 10, 0, 0)))
         self.assertEqual((told.exception.number, told.exception.place), (17, 1))
+
+    def test_edit(self):
+        left, right = (whole({"a": it}) for it in (LEFT, RIGHT))
+        self.assertEqual(noshinka.edit(left, [("add", right)]), SHARED_EDGE)
+        self.assertEqual(noshinka.edit(left, [("add", right), ("take", left)]), right)
+        self.assertEqual(noshinka.edit(left, iter([("take", left), ("take", left)])), NO_FEATURES)
+        self.assertEqual(noshinka.edit(SHARED_EDGE + b" ", []), SHARED_EDGE)
+        with self.assertRaises(noshinka.Fault) as told:
+            noshinka.edit(left, [("add", right), ("take", b"[")])
+        self.assertEqual((told.exception.number, told.exception.place, str(told.exception)), (1, 2, "text 2: 1 NotJson $"))
+
+    def test_by_a_property(self):
+        columns = [{"type": "Feature", "id": n, "properties": {"state": n // 2}, "geometry": {"type": "Polygon", "coordinates": [[[n, 0], [n + 1, 0], [n + 1, 1], [n, 1], [n, 0]]]}} for n in range(4)]
+        text = whole({"a": {"type": "FeatureCollection", "features": columns}})
+        self.assertEqual(noshinka.mesh(text, by="state").json()["coordinates"], [[[2, 0], [2, 1]]])
+        self.assertEqual(noshinka.mesh(text, "a", by="state"), noshinka.mesh(text, by="state"))
+        self.assertEqual(noshinka.neighbors(text, "a", by="state").json(), [[], [2], [1], []])
+        self.assertEqual(noshinka.neighbors(text, "a", ids=True, by="state").json(), [[], [2], [1], []])
+        self.assertEqual(noshinka.neighbors(text, "a", keyed=True).json(), {"0": [1], "1": [0, 2], "2": [1, 3], "3": [2]})
 
     def test_info(self):
         self.assertEqual(noshinka.info(SHARED_EDGE).json()["layers"][0]["features"], 2)
@@ -229,7 +388,7 @@ class Calls(unittest.TestCase):
 
     def test_a_room_that_is_too_small_is_made_larger(self):
         many = [(str(n), b'{"type":"Point","coordinates":[1,2]}') for n in range(1000)]
-        text = noshinka.build(many)
+        text = whole(many)
         self.assertGreater(len(text), sum(len(name) + len(given) for name, given in many) + 1024)
         self.assertEqual(len(text.json()["objects"]), 1000)
         self.assertEqual(noshinka.merge([text]), text)
@@ -239,16 +398,47 @@ class Calls(unittest.TestCase):
 class Errors(unittest.TestCase):
     def test_fault(self):
         with self.assertRaises(noshinka.Fault) as told:
-            noshinka.build([("a", LEFT), ("b", '{"type":"Point","coordinates":[0.5,1]}')])
+            whole([("a", LEFT), ("b", '{"type":"Point","coordinates":[0.5,1]}')])
         fault = told.exception
         self.assertEqual((fault.number, fault.name, fault.place, fault.path), (5, "NotWhole", 1, "$/coordinates/0"))
-        self.assertEqual(str(fault), "text 1: 5 NotWhole $/coordinates/0")
-        self.assertEqual(str(pickle.loads(pickle.dumps(fault))), str(fault))
+        self.assertEqual((fault.layer, fault.file, fault.line, fault.column, fault.id), ("b", None, 1, 32, None))
+        self.assertEqual(str(fault), "b: 5 NotWhole $/coordinates/0")
+        again = pickle.loads(pickle.dumps(fault))
+        self.assertEqual((str(again), vars(again)), (str(fault), vars(fault)))
         self.assertIsInstance(fault, ValueError)
+
+    def test_what_may_help(self):
+        for text, said in (
+            (point(181, 0), "layer: 6 OutOfRange $/geometry/coordinates/0: numbers beyond 180 and 90 need --step"),
+            (b'{"type":"Feature",\n"id":"K\xf6ln"}', "layer: 1 NotJson $: no UTF-8 at line 2, column 8; try ogr2ogr -oo ENCODING="),
+            (gzip.compress(LEFT), "layer: 1 NotJson $: compressed, gunzip it first"),
+            ("districts.geojson", "layer: 1 NotJson $: is it the name of a file? pathlib.Path of it is read"),
+        ):
+            with self.assertRaises(noshinka.Fault) as told:
+                noshinka.build(text)
+            self.assertEqual(str(told.exception), said)
+        with self.assertRaises(noshinka.Fault) as told:
+            noshinka.build(point(2**54, 0), step=1)
+        self.assertEqual(str(told.exception), "layer: 6 OutOfRange $/geometry/coordinates/0")
+
+    def test_where_a_number_is(self):
+        text = '{"type":"Feature","id":"x","properties":{"a":1,\n"b":[0.5]},"geometry":null}'
+        with self.assertRaises(noshinka.Fault) as told:
+            whole(text)
+        fault = told.exception
+        self.assertEqual((fault.number, fault.line, fault.column, fault.id, fault.member), (13, 1, 41, "x", "b"))
+
+    def test_without_the_library(self):
+        environment = {**os.environ, "NOSHINKA_LIBRARY": "/none/libnoshinka.so.1", "PYTHONPATH": os.path.dirname(os.path.dirname(noshinka.__file__))}
+        if os.path.exists(f"{os.path.dirname(noshinka.__file__)}/libnoshinka.so.1"):
+            self.skipTest("the library is beside the package")
+        ran = subprocess.run([sys.executable, "-c", "import noshinka"], env=environment, capture_output=True, text=True)
+        self.assertEqual(ran.returncode, 1)
+        self.assertRegex(ran.stderr.splitlines()[-1], "^ImportError: .*/none/libnoshinka.so.1.* NOSHINKA_LIBRARY$")
 
     def test_names_in_paths(self):
         with self.assertRaises(noshinka.Fault) as told:
-            noshinka.check({**noshinka.build({}).json(), "objects": {"a/b~c": {"type": "Point", "coordinates": [0.5, 1]}}})
+            noshinka.check({**whole({}).json(), "objects": {"a/b~c": {"type": "Point", "coordinates": [0.5, 1]}}})
         self.assertEqual((told.exception.number, told.exception.path), (5, "$/objects/a~1b~0c/coordinates/0"))
 
     def test_a_path_longer_than_the_room(self):
@@ -258,7 +448,7 @@ class Errors(unittest.TestCase):
         self.assertEqual((told.exception.number, told.exception.path), (3, f"$/objects/{name}"))
 
     def test_other_grid(self):
-        texts = [noshinka.build({"a": point(0, 10)}, grid) for grid in ((1, 1, 0, 0), (10, 10, 0, 0))]
+        texts = [whole({"a": point(0, 10)}, grid) for grid in ((1, 1, 0, 0), (10, 10, 0, 0))]
         for call in (lambda: noshinka.merge(texts), lambda: noshinka.remove(*texts)):
             with self.assertRaises(noshinka.Fault) as told:
                 call()
@@ -273,22 +463,46 @@ class Errors(unittest.TestCase):
         with self.assertRaises(noshinka.Fault) as told:
             noshinka.merge([])
         self.assertEqual(told.exception.number, 18)
-        self.assertEqual(noshinka.build({}).json()["objects"], {})
+        self.assertEqual(whole({}).json()["objects"], {})
 
     def test_no_layer(self):
         for call in (noshinka.feature, noshinka.mesh, noshinka.neighbors):
             with self.assertRaises(noshinka.Fault) as told:
                 call(SHARED_EDGE, "q")
-            self.assertEqual((told.exception.number, str(told.exception)), (19, "text 0: 19 NoLayer q"))
+            self.assertEqual((told.exception.number, str(told.exception)), (19, "19 NoLayer q"))
 
     def test_usage(self):
         for grid in ((0, 1, 0, 0), (1, 1, 0), (1, 1, 2**63, 0), (1000001, 1, 0, 0)):
             with self.assertRaises(noshinka.Usage):
-                noshinka.build({"a": LEFT}, grid)
+                whole({"a": LEFT}, grid)
+        self.assertEqual(whole({"a": LEFT}, (1.0, 1, 0, 0)), whole({"a": LEFT}))
+        for argument, said, call in (
+            ("grid", "bad grid 0,1,0,0", lambda: whole({"a": LEFT}, (0, 1, 0, 0))),
+            ("grid", "grid goes without snap: nothing is rounded", lambda: noshinka.build(LEFT, WHOLE, snap=1)),
+            ("grid", "grid goes without step: nothing is rounded", lambda: noshinka.build(LEFT, WHOLE, 1)),
+            ("step", "bad step 1m", lambda: noshinka.build(LEFT, step="1m")),
+            ("unit", "bad unit 0", lambda: noshinka.build(LEFT, step=1, unit=0)),
+            ("step", "bad step 1: --unit says what the numbers of the output count", lambda: noshinka.build(LEFT, step=1, unit=2)),
+            ("snap", "bad snap 11", lambda: noshinka.build(LEFT, snap=11)),
+            ("scales", "bad reals scale:area=50", lambda: noshinka.build(LEFT, scales={"area": 50})),
+            ("rewind", "rewind is one of keep, rfc7946, d3, and not 'left'", lambda: noshinka.round(LEFT, rewind="left")),
+            ("edges", "edges is one of all, interior, exterior, and not 'some'", lambda: noshinka.mesh(SHARED_EDGE, edges="some")),
+            ("by", "by goes without edges", lambda: noshinka.mesh(SHARED_EDGE, edges="interior", by="a")),
+            ("changes", "changes is one of add, take, and not 'drop'", lambda: noshinka.edit(SHARED_EDGE, [("drop", SHARED_EDGE)])),
+            ("ids", "--ids: a feature without an id in layer a", lambda: noshinka.neighbors(SHARED_EDGE, "a", ids=True)),
+            ("ids", "--ids: a feature without an id in layer a", lambda: noshinka.neighbors(SHARED_EDGE, "a", keyed=True)),
+            ("keyed", "--keyed: two features with one id in layer a", lambda: noshinka.neighbors(SAME_IDS, "a", keyed=True)),
+        ):
+            with self.subTest(said), self.assertRaises(noshinka.Usage) as told:
+                call()
+            self.assertEqual((told.exception.argument, str(told.exception)), (argument, said))
+            again = pickle.loads(pickle.dumps(told.exception))
+            self.assertEqual((again.argument, str(again)), (argument, said))
+        for step in (0, -1, "", "1m", 1e13, True, "degrees"):
+            with self.assertRaises(noshinka.Usage):
+                noshinka.build({"a": LEFT}, step=step)
         with self.assertRaises(TypeError):
-            noshinka.build({"a": LEFT}, (1.0, 1, 0, 0))
-        with self.assertRaises(noshinka.Usage):
-            noshinka.mesh(SHARED_EDGE, edges="some")
+            noshinka.round(LEFT, shape=1)
 
 
 class Threads(unittest.TestCase):
@@ -297,7 +511,7 @@ class Threads(unittest.TestCase):
 
         def run():
             for _ in range(200):
-                seen.append(noshinka.build({"a": [LEFT, RIGHT]}) == SHARED_EDGE)
+                seen.append(whole({"a": [LEFT, RIGHT]}) == SHARED_EDGE)
 
         threads = [threading.Thread(target=run) for _ in range(4)]
         for it in threads:
@@ -320,7 +534,7 @@ class Threads(unittest.TestCase):
         other.start()
         try:
             begun = time.perf_counter()
-            noshinka.build({"a": text})
+            whole({"a": text})
             ended = time.perf_counter()
         finally:
             stop.set()

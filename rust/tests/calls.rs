@@ -1,12 +1,18 @@
-//! Each call once, its errors, rooms that are too small, and threads.
+//! Each call, its options, its errors, rooms that are too small, and threads.
 use noshinka::{
-    build, check, diff, faults, feature, info, merge, mesh, neighbors, remove, snap, By, Edges, Error,
-    Fault, Form, Grid,
+    build, check, diff, edit, fault_name, faults, feature, info, merge, mesh, neighbors, remove,
+    round, round_features, round_with_report, Collapsed, Edges, Edit, Error, Fault, FaultKind, Fix,
+    Form, Grid, Lists, Reals, Rewind, RoundOptions, Scale, Topology,
 };
 
 const LEFT: &[u8] = br#"{"type":"Polygon","coordinates":[[[0,0],[1,0],[1,1],[0,1],[0,0]]]}"#;
 const RIGHT: &[u8] = br#"{"type":"Polygon","coordinates":[[[1,0],[2,0],[2,1],[1,1],[1,0]]]}"#;
 const SHARED_EDGE: &str = r#"{"arcs":[[[1,0],[-1,0],[0,1],[1,0]],[[1,0],[0,1]],[[1,0],[1,0],[0,1],[-1,0]]],"bbox":[0,0,2,1],"objects":{"a":{"geometries":[{"arcs":[[1,-1]],"type":"Polygon"},{"arcs":[[2,-2]],"type":"Polygon"}],"type":"GeometryCollection"}},"transform":{"scale":[1,1],"translate":[0,0]},"type":"Topology"}"#;
+/// Numbers of each kind in properties, and what they become with hundredths of the area.
+const NUMBERS: &[u8] = br#"{"type":"Feature","id":7.0,"properties":{"people":8400.0,"area":0.125,"rate":2.50},"geometry":null}"#;
+const NUMBERS_ROUNDED: &str = r#"{"features":[{"geometry":null,"id":7,"properties":{"area":13,"people":8400,"rate":"2.5"},"type":"Feature"}],"type":"FeatureCollection"}"#;
+/// A topology as other tools write it.
+const LAND: &[u8] = br#"{"type":"Topology","transform":{"scale":[0.0036,0.0018],"translate":[-180,-90]},"arcs":[[[0,0],[1000,500],[500,0],[-1500,-500]]],"objects":{"land":{"type":"Polygon","arcs":[[0]],"id":"01001"}}}"#;
 
 fn fault<T: std::fmt::Debug>(answer: Result<T, Error>) -> Fault {
     match answer {
@@ -15,10 +21,46 @@ fn fault<T: std::fmt::Debug>(answer: Result<T, Error>) -> Fault {
     }
 }
 
+fn shown(text: impl AsRef<[u8]>) -> String {
+    String::from_utf8(text.as_ref().to_vec()).unwrap()
+}
+
+fn squares() -> Topology {
+    Topology::new(SHARED_EDGE)
+}
+
+/// Two squares with these ids and names.
+fn named_squares(ids: [i64; 2], names: [&str; 2]) -> Topology {
+    let feature = |square: &[u8], id: i64, name: &str| {
+        format!(
+            r#"{{"type":"Feature","id":{id},"properties":{{"name":"{name}"}},"geometry":{}}}"#,
+            shown(square)
+        )
+    };
+    let (left, right) = (
+        feature(LEFT, ids[0], names[0]),
+        feature(RIGHT, ids[1], names[1]),
+    );
+    build(
+        Grid::WHOLE,
+        &[("a", left.as_bytes()), ("a", right.as_bytes())],
+    )
+    .unwrap()
+}
+
+/// Steps of 1, which are 1 in the result too.
+fn whole_steps() -> RoundOptions<'static> {
+    RoundOptions {
+        step: Some("1"),
+        unit: Some("1"),
+        ..Default::default()
+    }
+}
+
 #[test]
 fn squares_are_built_merged_and_taken_apart() {
     let both = build(Grid::WHOLE, &[("a", LEFT), ("a", RIGHT)]).unwrap();
-    assert_eq!(both, SHARED_EDGE.as_bytes());
+    assert_eq!(shown(&both), SHARED_EDGE);
     let (left, right) = (
         build(Grid::WHOLE, &[("a", LEFT)]).unwrap(),
         build(Grid::WHOLE, &[("a", RIGHT)]).unwrap(),
@@ -30,87 +72,386 @@ fn squares_are_built_merged_and_taken_apart() {
 }
 
 #[test]
-fn questions_are_answered() {
-    let text = SHARED_EDGE.as_bytes();
-    let layer = String::from_utf8(feature(text, "a").unwrap()).unwrap();
-    assert!(layer.starts_with(r#"{"features":[{"geometry":{"coordinates":[[[0,0],[1,0],[1,1],[0,1],[0,0]]],"type":"Polygon"}"#), "{layer}");
-    assert_eq!(
-        mesh(text, None, Edges::Interior).unwrap(),
-        br#"{"coordinates":[[[1,0],[1,1]]],"type":"MultiLineString"}"#
+fn edits_come_one_after_the_other() {
+    let (left, right) = (
+        build(Grid::WHOLE, &[("a", LEFT)]).unwrap(),
+        build(Grid::WHOLE, &[("a", RIGHT)]).unwrap(),
     );
-    assert_eq!(
-        mesh(text, Some("a"), Edges::Interior),
-        mesh(text, None, Edges::Interior)
-    );
-    assert_ne!(
-        mesh(text, Some("a"), Edges::Exterior),
-        mesh(text, None, Edges::All)
-    );
-    assert_eq!(neighbors(text, "a", By::Place).unwrap(), b"[[1],[0]]");
-    assert_eq!(neighbors(text, "a", By::Id), Err(Error::Usage));
-    assert!(info(text, Form::Lines)
-        .unwrap()
-        .starts_with(b"grid: 1,1,0,0\nbbox: 0,0,2,1\n"));
-    assert!(info(text, Form::Json)
-        .unwrap()
-        .starts_with(br#"{"arcs":3,"bbox":[0,0,2,1],"#));
+    assert_eq!(edit(&left, &[]).unwrap(), left);
+    assert_eq!(edit(&left, &[Edit::Add(&right)]).unwrap(), squares());
+    let edits = [Edit::Take(&left), Edit::Add(&left), Edit::Take(&right)];
+    assert_eq!(edit(&squares(), &edits).unwrap(), left);
+    let refused = fault(edit(&left, &[Edit::Add(&right), Edit::Take(b"")]));
+    assert_eq!((refused.kind, refused.place), (FaultKind::NotJson, 2));
+    let tens = Grid {
+        scale_x: 10,
+        ..Grid::WHOLE
+    };
+    let other = build(tens, &[]).unwrap();
+    let refused = fault(edit(&left, &[Edit::Add(&other)]));
+    assert_eq!((refused.kind, refused.place), (FaultKind::OtherGrid, 1));
 }
 
 #[test]
-fn errors_say_number_place_and_path() {
-    let half = br#"{"type":"Point","coordinates":[0.5,1]}"#;
-    let told = fault(build(Grid::WHOLE, &[("a", LEFT), ("b", half)]));
+fn questions_are_answered() {
+    let text = squares();
     assert_eq!(
-        told,
-        Fault {
-            number: 5,
-            place: 1,
-            path: "$/coordinates/0".into()
-        }
+        shown(mesh(&text, None, Edges::Interior).unwrap()),
+        r#"{"coordinates":[[[1,0],[1,1]]],"type":"MultiLineString"}"#
     );
     assert_eq!(
-        Error::Fault(told).to_string(),
+        mesh(&text, Some("a"), Edges::Interior),
+        mesh(&text, None, Edges::Interior)
+    );
+    assert_ne!(
+        mesh(&text, Some("a"), Edges::Exterior),
+        mesh(&text, None, Edges::All)
+    );
+    assert_eq!(
+        neighbors(&text, "a", None, Lists::Places).unwrap(),
+        b"[[1],[0]]"
+    );
+    assert_eq!(neighbors(&text, "a", None, Lists::Ids), Err(Error::Usage));
+    let lines = info(&text, Form::Lines).unwrap();
+    assert!(lines.starts_with(b"grid: 1,1,0,0\nbbox: 0,0,2,1\n"));
+    let json = info(&text, Form::Json).unwrap();
+    assert!(json.starts_with(br#"{"arcs":3,"bbox":[0,0,2,1],"#));
+}
+
+#[test]
+fn borders_and_neighbors_by_a_property() {
+    let (alike, apart) = (
+        named_squares([1, 2], ["x", "x"]),
+        named_squares([1, 2], ["x", "y"]),
+    );
+    assert_eq!(
+        shown(mesh(&apart, Some("a"), Edges::By("name")).unwrap()),
+        r#"{"coordinates":[[[1,0],[1,1]]],"type":"MultiLineString"}"#
+    );
+    assert_eq!(
+        shown(mesh(&alike, None, Edges::By("name")).unwrap()),
+        r#"{"coordinates":[],"type":"MultiLineString"}"#
+    );
+    let by = |text: &Topology, lists| shown(neighbors(text, "a", Some("name"), lists).unwrap());
+    assert_eq!(by(&alike, Lists::Places), "[[],[]]");
+    assert_eq!(by(&apart, Lists::Ids), "[[2],[1]]");
+    assert_eq!(by(&apart, Lists::KeyedIds), r#"{"1":[2],"2":[1]}"#);
+    let twice = named_squares([1, 1], ["x", "y"]);
+    assert_eq!(
+        shown(neighbors(&twice, "a", None, Lists::KeyedIds).unwrap()),
+        r#"{"1":[1],"1":[1]}"#
+    );
+}
+
+#[test]
+fn features_are_iterated() {
+    let odd = br#"{"type":"Feature","id":"}\"{","properties":{"a":{"b":"\\"},"c":[1,"]},{"]},"geometry":null}"#;
+    let text = build(
+        Grid::WHOLE,
+        &[
+            ("a", LEFT),
+            ("a", odd),
+            ("b", b"{\"type\":\"FeatureCollection\",\"features\":[]}"),
+        ],
+    )
+    .unwrap();
+    let layer = text.layer("a").unwrap();
+    let features: Vec<String> = layer.features().map(shown).collect();
+    assert_eq!(
+        features,
+        [
+            r#"{"geometry":{"coordinates":[[[0,0],[1,0],[1,1],[0,1],[0,0]]],"type":"Polygon"},"properties":{},"type":"Feature"}"#,
+            r#"{"geometry":null,"id":"}\"{","properties":{"a":{"b":"\\"},"c":[1,"]},{"]},"type":"Feature"}"#,
+        ]
+    );
+    assert_eq!(
+        shown(layer.text()),
+        format!(
+            r#"{{"features":[{}],"type":"FeatureCollection"}}"#,
+            features.join(",")
+        )
+    );
+    assert_eq!(text.layer("b").unwrap().into_iter().count(), 0);
+    assert_eq!(fault(text.layer("q")).kind, FaultKind::NoLayer);
+    assert_eq!(feature(&text, "a").unwrap(), layer);
+}
+
+#[test]
+fn errors_say_kind_place_and_path() {
+    let half = br#"{"type":"Point","coordinates":[0.5,1]}"#;
+    let refused = fault(build(Grid::WHOLE, &[("a", LEFT), ("b", half)]));
+    assert_eq!((refused.kind, refused.place), (FaultKind::NotWhole, 1));
+    assert_eq!(refused.path, "$/coordinates/0");
+    assert_eq!(
+        Error::Fault(refused).to_string(),
         "text 1: 5 NotWhole $/coordinates/0"
     );
     assert_eq!(fault(merge(&[])).to_string(), "text 0: 18 BadPlan");
-    assert_eq!(
-        fault(feature(SHARED_EDGE.as_bytes(), "q")).name(),
-        "NoLayer"
-    );
-    assert_eq!(fault(remove(SHARED_EDGE.as_bytes(), b"")).place, 1);
-    assert_eq!(
-        build(
-            Grid {
-                scale_x: 0,
-                ..Grid::WHOLE
-            },
-            &[]
-        ),
-        Err(Error::Usage)
-    );
+    assert_eq!(fault(remove(&squares(), b"")).place, 1);
+    let grid = Grid {
+        scale_x: 0,
+        ..Grid::WHOLE
+    };
+    assert_eq!(build(grid, &[]), Err(Error::Usage));
     let error: Box<dyn std::error::Error + Send + Sync> = Error::OutOfMemory.into();
     assert_eq!(error.to_string(), "out of memory");
 }
 
 #[test]
-fn decimal_numbers_are_rounded() {
-    let line = br#"{"type":"LineString","coordinates":[[0.5,-0.5],[1.5,2.5,9]]}"#;
-    assert_eq!(
-        snap(line, Some("1")).unwrap(),
-        br#"{"features":[{"geometry":{"coordinates":[[1,-1],[2,3]],"type":"LineString"},"properties":{},"type":"Feature"}],"type":"FeatureCollection"}"#
-    );
-    let far = fault(snap(br#"{"type":"Point","coordinates":[0,90.5]}"#, None));
-    assert_eq!((far.number, far.path.as_str()), (6, "$/coordinates/1"));
-    for step in ["", "0", "-1", "1m"] {
-        assert_eq!(snap(line, Some(step)), Err(Error::Usage));
+fn kinds_have_the_names_and_numbers_of_the_library() {
+    for (number, kind) in (1..).zip(FaultKind::ALL) {
+        assert_eq!(kind.number(), number);
+        assert_eq!(FaultKind::of_number(number), Some(kind));
+        assert_eq!(fault_name(number).unwrap(), kind.to_string());
+    }
+    for number in [0, 22] {
+        assert_eq!(FaultKind::of_number(number), None);
+        assert_eq!(fault_name(number), Err(Error::Usage));
     }
 }
 
 #[test]
-fn all_faults_are_listed() {
-    let list = faults(br#"{"type":"Point","coordinates":[0.5,1.5]}"#, Some(Grid::WHOLE)).unwrap();
+fn decimal_numbers_are_rounded() {
+    let line = br#"{"type":"LineString","coordinates":[[0.5,-0.5],[1.5,2.5,9]]}"#;
+    let rounded = round_features(&[("a", line)], &whole_steps()).unwrap();
     assert_eq!(
-        String::from_utf8(list).unwrap(),
+        shown(&rounded),
+        r#"{"features":[{"geometry":{"coordinates":[[1,-1],[2,3]],"type":"LineString"},"properties":{},"type":"Feature"}],"type":"FeatureCollection"}"#
+    );
+    assert_eq!(rounded.features().count(), 1);
+    assert_eq!(
+        round(&[("a", LEFT), ("a", RIGHT)], &whole_steps()).unwrap(),
+        squares()
+    );
+    let far = fault(round(
+        &[
+            ("a", LEFT),
+            ("b", br#"{"type":"Point","coordinates":[0,90.5]}"#),
+        ],
+        &Default::default(),
+    ));
+    assert_eq!(
+        (far.kind, far.place, far.path.as_str()),
+        (FaultKind::OutOfRange, 1, "$/coordinates/1")
+    );
+    for word in ["", "0", "-1", "1m"] {
+        let (step, unit) = (
+            RoundOptions {
+                step: Some(word),
+                ..whole_steps()
+            },
+            RoundOptions {
+                unit: Some(word),
+                ..whole_steps()
+            },
+        );
+        assert_eq!(round(&[("a", line)], &step), Err(Error::Usage));
+        assert_eq!(round(&[("a", line)], &unit), Err(Error::Usage));
+    }
+}
+
+#[test]
+fn the_report_says_what_was_done() {
+    let line = br#"{"type":"LineString","coordinates":[[0.5,-0.5],[1.5,2.5,9]]}"#;
+    let (text, report) = round_with_report(&[("a", line)], &whole_steps()).unwrap();
+    assert_eq!(text, round(&[("a", line)], &whole_steps()).unwrap());
+    let report = shown(report);
+    assert!(report.starts_with('{') && report.ends_with('}'), "{report}");
+    for part in [
+        r#""moved":2"#,
+        r#""furthest":5000"#,
+        r#""heights":1"#,
+        r#""features":1"#,
+    ] {
+        assert!(report.contains(part), "{report}");
+    }
+}
+
+#[test]
+fn topologies_of_other_tools_are_rounded() {
+    let layers = |options: &RoundOptions| {
+        let text = round(&[("x", LAND)], options).unwrap();
+        ["land", "x"].map(|name| text.layer(name).is_ok())
+    };
+    assert_eq!(layers(&Default::default()), [true, false]);
+    let renamed = RoundOptions {
+        renames: true,
+        ..Default::default()
+    };
+    assert_eq!(layers(&renamed), [false, true]);
+    let picked = |layer| RoundOptions {
+        layer: Some(layer),
+        ..Default::default()
+    };
+    assert_eq!(layers(&picked("land")), [true, false]);
+    let missing = fault(round(&[("x", LAND)], &picked("sea")));
+    assert_eq!(missing.to_string(), "text 0: 2 Missing $/objects/sea");
+}
+
+#[test]
+fn properties_and_ids_are_rounded() {
+    let scales = [Scale {
+        property: "area",
+        zeros: 2,
+    }];
+    let scaled = RoundOptions {
+        scales: &scales,
+        ..Default::default()
+    };
+    let rounded = |text: &[u8], options: &RoundOptions| {
+        round_features(&[("a", text)], options).map(|features| shown(&features))
+    };
+    assert_eq!(rounded(NUMBERS, &scaled).unwrap(), NUMBERS_ROUNDED);
+    let texts = RoundOptions {
+        reals: Reals::Text,
+        ..scaled.clone()
+    };
+    assert!(rounded(NUMBERS, &texts)
+        .unwrap()
+        .contains(r#""people":"8400","#));
+    let refusing = RoundOptions {
+        reals: Reals::Refuse,
+        ..Default::default()
+    };
+    assert_eq!(
+        fault(rounded(NUMBERS, &refusing)).kind,
+        FaultKind::PropertyNumber
+    );
+    let many = [Scale {
+        property: "area",
+        zeros: 13,
+    }];
+    let bad = RoundOptions {
+        scales: &many,
+        ..Default::default()
+    };
+    assert_eq!(rounded(NUMBERS, &bad), Err(Error::Usage));
+    let named = RoundOptions {
+        id: Some("people"),
+        ..Default::default()
+    };
+    assert!(rounded(NUMBERS, &named).unwrap().contains(r#""id":8400,"#));
+    let missing = RoundOptions {
+        id: Some("q"),
+        ..Default::default()
+    };
+    assert_eq!(fault(rounded(NUMBERS, &missing)).kind, FaultKind::Missing);
+    let numbered = RoundOptions {
+        number: true,
+        ..Default::default()
+    };
+    assert!(rounded(LEFT, &numbered).unwrap().contains(r#""id":1,"#));
+}
+
+#[test]
+fn what_is_fixed_may_be_refused() {
+    let fixing = whole_steps();
+    let sets: [(&[u8], FaultKind, RoundOptions); 5] = [
+        (
+            br#"{"type":"Point","coordinates":[1,2,3]}"#,
+            FaultKind::NotTwo,
+            RoundOptions {
+                heights: Fix::No,
+                ..fixing.clone()
+            },
+        ),
+        (
+            br#"{"type":"Polygon","coordinates":[[[0,0],[1,0],[1,1]]]}"#,
+            FaultKind::NotClosed,
+            RoundOptions {
+                unclosed: Fix::No,
+                ..fixing.clone()
+            },
+        ),
+        (
+            br#"{"type":"LineString","coordinates":[[0,0],[1,0],[1,1],[1,0]]}"#,
+            FaultKind::Revisit,
+            RoundOptions {
+                folded: Fix::No,
+                ..fixing.clone()
+            },
+        ),
+        (
+            br#"{"type":"GeometryCollection","geometries":[]}"#,
+            FaultKind::UnknownType,
+            RoundOptions {
+                collections: Fix::No,
+                ..fixing.clone()
+            },
+        ),
+        (
+            br#"{"type":"LineString","coordinates":[[0,0],[0.1,0]]}"#,
+            FaultKind::TooShort,
+            RoundOptions {
+                collapsed: Collapsed::Refuse,
+                ..fixing.clone()
+            },
+        ),
+    ];
+    for (text, kind, options) in sets {
+        assert_eq!(fault(round(&[("a", text)], &options)).kind, kind);
+        round(&[("a", text)], &fixing).unwrap();
+    }
+}
+
+#[test]
+fn rounding_has_more_options() {
+    let count = |text: &[u8], options: &RoundOptions| {
+        let features = round_features(&[("a", text)], options).unwrap();
+        features.features().count()
+    };
+    let short = br#"{"type":"LineString","coordinates":[[0,0],[0.1,0]]}"#;
+    let dropping = RoundOptions {
+        collapsed: Collapsed::Drop,
+        ..whole_steps()
+    };
+    assert_eq!(count(short, &whole_steps()), 1);
+    assert_eq!(count(short, &dropping), 0);
+    let lines =
+        b"{\"type\":\"Point\",\"coordinates\":[1,2]}\n{\"type\":\"Point\",\"coordinates\":[3,4]}\n";
+    let sequences = RoundOptions {
+        sequences: true,
+        ..whole_steps()
+    };
+    assert_eq!(count(lines, &sequences), 2);
+    assert_eq!(
+        fault(round(&[("a", lines)], &whole_steps())).kind,
+        FaultKind::NotJson
+    );
+    let turned = RoundOptions {
+        rewind: Rewind::D3,
+        ..whole_steps()
+    };
+    let ring = round_features(&[("a", LEFT)], &turned).unwrap();
+    assert!(
+        shown(&ring).contains("[[[0,0],[0,1],[1,1],[1,0],[0,0]]]"),
+        "{ring:?}"
+    );
+    let (one, near) = (
+        br#"{"type":"LineString","coordinates":[[0,0],[100,0]]}"#,
+        br#"{"type":"LineString","coordinates":[[1,0],[100,50]]}"#,
+    );
+    let snapped = |snap| {
+        let options = RoundOptions {
+            snap,
+            ..whole_steps()
+        };
+        round(&[("a", one), ("b", near)], &options)
+    };
+    let start = |snap, start: &str| {
+        let layer = snapped(snap).unwrap().layer("b").unwrap();
+        assert!(shown(&layer).contains(start), "{layer:?}");
+    };
+    start(0, r#""coordinates":[[1,0],[100,50]]"#);
+    start(1, r#""coordinates":[[0,0],[100,50]]"#);
+    assert_eq!(snapped(11), Err(Error::Usage));
+}
+
+#[test]
+fn all_faults_are_listed() {
+    let points = br#"{"type":"Point","coordinates":[0.5,1.5]}"#;
+    assert_eq!(
+        shown(faults(points, Some(Grid::WHOLE)).unwrap()),
         concat!(
             r#"[{"column":32,"line":1,"name":"NotWhole","number":5,"path":"$/coordinates/0"},"#,
             "\n",
@@ -126,21 +467,19 @@ fn all_faults_are_listed() {
 }
 
 #[test]
-fn differences_are_told() {
+fn differences_are_listed() {
     let old = build(Grid::WHOLE, &[("a", LEFT)]).unwrap();
-    let lines = diff(&old, SHARED_EDGE.as_bytes(), None, None, Form::Lines).unwrap();
+    let lines = diff(&old, &squares(), None, None, Form::Lines).unwrap();
     assert_eq!(
-        String::from_utf8(lines).unwrap(),
+        shown(lines),
         "+ \"a\" null {}\n1 added, 0 removed, 0 changed\n"
     );
     assert_eq!(
-        diff(&old, &old, Some("a"), Some("name"), Form::Json).unwrap(),
-        br#"{"added":0,"changed":0,"differences":[],"layers":{"added":[],"removed":[]},"removed":0}"#
+        shown(diff(&old, &old, Some("a"), Some("name"), Form::Json).unwrap()),
+        r#"{"added":0,"changed":0,"differences":[],"layers":{"added":[],"removed":[]},"removed":0}"#
     );
-    assert_eq!(
-        fault(diff(&old, &old, Some("q"), None, Form::Json)).number,
-        19
-    );
+    let no_layer = fault(diff(&old, &old, Some("q"), None, Form::Json));
+    assert_eq!(no_layer.kind, FaultKind::NoLayer);
     assert_eq!(fault(diff(&old, b"", None, None, Form::Json)).place, 1);
 }
 
@@ -162,7 +501,8 @@ fn a_room_that_is_too_small_is_made_larger() {
     let names: Vec<String> = (0..1000).map(|it| it.to_string()).collect();
     let sources: Vec<(&str, &[u8])> = names.iter().map(|it| (it.as_str(), &point[..])).collect();
     let text = build(Grid::WHOLE, &sources).unwrap();
-    assert!(text.len() > names.iter().map(|it| it.len() + point.len()).sum::<usize>() + 1024);
+    let lengths = names.iter().map(|it| it.len() + point.len());
+    assert!(text.len() > lengths.sum::<usize>() + 1024);
     assert_eq!(merge(&[&text]).unwrap(), text);
 }
 
@@ -170,7 +510,7 @@ fn a_room_that_is_too_small_is_made_larger() {
 fn threads_have_the_same_answers() {
     let run = || {
         (0..100).all(|_| {
-            build(Grid::WHOLE, &[("a", LEFT), ("a", RIGHT)]).unwrap() == SHARED_EDGE.as_bytes()
+            build(Grid::WHOLE, &[("a", LEFT), ("a", RIGHT)]).is_ok_and(|it| it == squares())
         })
     };
     let threads: Vec<_> = (0..4).map(|_| std::thread::spawn(run)).collect();
