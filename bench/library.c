@@ -1,6 +1,6 @@
 /* Makes a call of the library so many times, on files that are read first.
  *
- *     library build|merge|snap|copy TIMES FILE...
+ *     library build|merge|round|copy TIMES FILE...
  *
  * `copy` makes a copy of each file instead, and frees it. bench/library.py counts the instructions of two runs; what one
  * call takes is the difference. */
@@ -50,12 +50,14 @@ int main(int words, char **word) {
     }
     uint8_t *room = (uint8_t *)calloc(size, 1);
     noshinka_source source = {{layer, 1}, texts[0]};
+    noshinka_round_options options = NOSHINKA_ROUND_OPTIONS;
+    options.format = NOSHINKA_GEOJSON;
     while (room && times--) {
         noshinka_outcome outcome;
         switch (word[1][0]) {
         case 'b': outcome = noshinka_build(&grid, &source, 1, room, size); break;
         case 'm': outcome = noshinka_merge(texts, (size_t)count, room, size); break;
-        case 's': outcome = noshinka_snap(texts[0].at, texts[0].length, layer, 0, room, size); break;
+        case 'r': outcome = noshinka_round(&options, &source, 1, room, size); break;
         default: outcome = copy(count);
         }
         if (outcome.status != NOSHINKA_DONE) return (int)outcome.status;

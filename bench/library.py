@@ -98,7 +98,7 @@ def count_calls(folder, small, large, quarters):
         ("merge of quarters", call("merge", *quarters), instructions(PROGRAM, "merge", *quarters)),
     ):
         print(f"{what}: {by_call:.3f} million instructions by a call, {by_process:.3f} by a process")
-    print(f"snap of the large text: {call('snap', large):.3f} million; copies of the quarters: {call('copy', *quarters):.3f} million")
+    print(f"rounding of the large text: {call('round', large):.3f} million; copies of the quarters: {call('copy', *quarters):.3f} million")
 
 
 def main():

@@ -17,7 +17,8 @@ Of every document, links have to lead to a file, and to a heading where they nam
 a crate that is mentioned has to be there. Of PLAIN documents, so has each path into examples, tests and bench; a paragraph has
 at most PARAGRAPH characters, a sentence at most SENTENCE words and AVERAGE on average (a colon or a semicolon ends one too), a
 document at most PAGE words, and there is no word of AVOID. README.md has at most README_BYTES bytes, and names the kit as
-`rt version` does, where that is installed; its table and docs/COMMANDS.md have each command that the program's help lists.
+`rt version` does, where that is installed; its table and docs/COMMANDS.md have each command that the program's help lists, and
+the table of the latter each message of wrong usage.
 All documents but docs/DEFINITIONS.md, CHANGELOG.md and the forms in .github have at most WORDS words together: those of
 prose and tables, and not those of code. The folders at the top have a README.md.
 
@@ -50,7 +51,7 @@ import house
 PROGRAM = os.path.abspath(os.environ.get("TOPOTOOL", f"{TOP}/crates/topotool/out/topotool"))
 TOGRID = os.path.abspath(os.environ.get("TOGRID", f"{TOP}/crates/togrid/out/togrid"))
 FOLDERS = ["bench", "c", "completions", "crates", "dist", "docs", "examples", "python", "rust", "tests"]
-DOCUMENTS = ["README.md", *(f"docs/{it}.md" for it in ("COMMANDS", "SESSIONS", "HEADLINE", "FAULTS", "LIBRARY", "GLOSSARY", "EDITORS", "TOGRID")),
+DOCUMENTS = ["README.md", *(f"docs/{it}.md" for it in ("COMMANDS", "SESSIONS", "HEADLINE", "FAULTS", "LIBRARY", "GLOSSARY", "EDITORS", "TOGRID", "FROM_OTHER_TOOLS")),
              "CONTRIBUTING.md", "SECURITY.md", "CHANGELOG.md"]
 # The pages of crates, whether they are there or not. They have a limit of lines, so their words aren't counted with the others'.
 CRATES = sorted(f"{os.path.dirname(os.path.relpath(it, TOP))}/README.md" for it in glob.glob(f"{TOP}/crates/*/src"))
@@ -58,6 +59,8 @@ README_LINES = 20
 PLAIN = [*DOCUMENTS, *(f"docs/{it}.md" for it in ("ARCHITECTURE", "DECISIONS", "PROOFS", "TESTS", "SPEED", "README")), *CRATES,
          *(f"{it}/README.md" for it in FOLDERS if it != "docs"), *(f"examples/{it}/README.md" for it in ("own-map", "many-hands", "map", "python"))]
 PROOFS = "docs/PROOFS.md"
+# Where the messages of wrong usage are defined.
+MESSAGES = "crates/command_line/specs/Refusal.antt"
 OPTIONAL = ["jq", "ogr2ogr"]
 README_BYTES = 8000
 PARAGRAPH = 600
@@ -70,6 +73,7 @@ VERSIONS = {
     "crates/command_line/src/togrid.rt": "VERSION: &str = ",
     "python/noshinka/__init__.py": "^__version__ = ",
     "rust/Cargo.toml": "^version = ",
+    "rust/serde/Cargo.toml": "^version = ",
     "rust/Cargo.lock": 'name = "noshinka"\nversion = ',
     "docs/topotool.1": '"topotool ',
     "tests/rows/usage.toml": '"topotool ',
@@ -381,8 +385,11 @@ def read_through():
 
 
 def undescribed():
-    """Gives what README.md and docs/COMMANDS.md don't say: the kit that `rt version` names, and commands of the program."""
-    readme, pages = (open(f"{TOP}/{it}", encoding="utf-8").read() for it in ("README.md", "docs/COMMANDS.md"))
+    """Gives what README.md and docs/COMMANDS.md don't say: the kit that `rt version` names, commands of the program, and messages."""
+    readme, pages, messages = (open(f"{TOP}/{it}", encoding="utf-8").read() for it in ("README.md", "docs/COMMANDS.md", MESSAGES))
+    for message in re.findall(r'^usage_words .*= codes "(.*?) *"$', messages, re.MULTILINE):
+        if not re.search(rf"^\| (?:.*, )?`{re.escape(message)}\b", pages, re.MULTILINE):
+            yield f"docs/COMMANDS.md: its table has no message '{message}'"
     if shutil.which("rt"):
         kit = subprocess.run(["rt", "version"], stdin=subprocess.DEVNULL, capture_output=True, text=True).stdout.strip()
         logic = " ".join(kit.split()[-2:])

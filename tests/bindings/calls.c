@@ -19,6 +19,15 @@
 #define HALF "{\"type\":\"Feature\",\"geometry\":{\"type\":\"LineString\",\"coordinates\":[[0,0],[0.5,1]]}}"
 #define HALF_AT "$/geometry/coordinates/1/0"
 #define DEGREES "{\"type\":\"Point\",\"coordinates\":[7.4386325,46.9510827,540.0]}"
+#define OF_DEGREES \
+    "{\"arcs\":[],\"bbox\":[7438633,46951083,7438633,46951083],\"objects\":{\"a\":{\"geometries\":[{\"coordinates\":[7438633,46951083]," \
+    "\"type\":\"Point\"}],\"type\":\"GeometryCollection\"}},\"transform\":{\"scale\":[1,1],\"translate\":[0,0]},\"type\":\"Topology\"}"
+/* 7.4386325 and 46.9510827 are half a step and three tenths of one from whole numbers of steps. */
+#define REPORT_OF_DEGREES \
+    "{\"maps\":[{\"layer\":null,\"text\":0}],\"outcomes\":[{\"features\":1,\"positions\":1,\"moved\":1,\"furthest\":5000,\"heights\":1," \
+    "\"reals\":0,\"closed\":0,\"collapsed\":0,\"folded\":0,\"collections\":0,\"lost\":0,\"fixed\":[]}],\"equal\":[[]],\"joined\":0," \
+    "\"too_wide\":0,\"first_too_wide\":null,\"shared\":0,\"nearly_shared\":0,\"first_nearly_shared\":null}\n"
+#define NAMED(id, geometry) "{\"type\":\"Feature\",\"id\":" id ",\"properties\":{\"p\":" id "},\"geometry\":" geometry "}"
 #define FAULTY \
     "{\"type\":\"Feature\",\"id\":7,\"properties\":{\"a\":1.5},\n" \
     "\"geometry\":{\"type\":\"LineString\",\"coordinates\":[[0],[1,2.5]]}}"
@@ -26,8 +35,9 @@
 /* The text of a feature with a geometry. */
 #define SNAPPED(geometry) "{\"features\":[{\"geometry\":" geometry ",\"properties\":{},\"type\":\"Feature\"}],\"type\":\"FeatureCollection\"}"
 #define IN_ONES SNAPPED("{\"coordinates\":[604550,199784],\"type\":\"Point\"}")
-#define IN_TWOS SNAPPED("{\"coordinates\":[302275,99892],\"type\":\"Point\"}")
+#define IN_FOURS SNAPPED("{\"coordinates\":[604552,199784],\"type\":\"Point\"}")
 #define COLLAPSED SNAPPED("null")
+#define NOTHING "{\"features\":[],\"type\":\"FeatureCollection\"}"
 
 static long looked, wrong;
 
@@ -41,12 +51,12 @@ static void look(int holds, const char *what, int line) {
 #define LOOK(holds) look(holds, #holds, __LINE__)
 
 /* A block of just these bytes. It is never freed before the end, where valgrind would tell of it. */
-static uint8_t *blocks[64];
+static uint8_t *blocks[256];
 static size_t count;
 
 static uint8_t *block(size_t size) {
     uint8_t *made = (uint8_t *)malloc(size ? size : 1);
-    if (!made || count == 64) exit(2);
+    if (!made || count == 256) exit(2);
     memset(made, 0x55, size ? size : 1);
     blocks[count++] = made;
     return made;
@@ -84,7 +94,7 @@ static int is(noshinka_outcome outcome, uint32_t status, uint32_t fault, size_t 
 }
 
 /* The calls that answer with a text, so that each is tried in the same rooms. */
-enum { BUILD, MERGE, REMOVE, FEATURE, MESH, MESH_OF_LAYER, NEIGHBORS, SNAP, DIFF, FAULTS, INFO, CALLS };
+enum { BUILD, MERGE, REMOVE, FEATURE, MESH, MESH_OF_LAYER, MESH_BY, NEIGHBORS, NEIGHBORS_BY, NEIGHBOR_IDS, KEYED, ROUND, ROUND_BUILD, REPORT, EDIT, DIFF, FAULTS, FAULT_NAME, INFO, CALLS };
 
 static const char *answers[CALLS] = {
     BOTH,
@@ -94,19 +104,85 @@ static const char *answers[CALLS] = {
     ",\"type\":\"Feature\"}],\"type\":\"FeatureCollection\"}",
     "{\"coordinates\":[[[1,0],[1,1]]],\"type\":\"MultiLineString\"}",
     "{\"coordinates\":[[[0,0],[0,1],[1,1],[2,1],[2,0],[1,0],[0,0]]],\"type\":\"MultiLineString\"}",
+    "{\"coordinates\":[[[1,0],[1,1]]],\"type\":\"MultiLineString\"}",
     "[[1],[0]]",
+    "[[1],[0]]",
+    "[[\"e\"],[7]]",
+    "{\"7\":[\"e\"],\"e\":[7]}",
     SNAPPED("{\"coordinates\":[7438633,46951083],\"type\":\"Point\"}"),
+    OF_DEGREES,
+    REPORT_OF_DEGREES OF_DEGREES,
+    OF_LEFT,
     "+ \"a\" null {}\n1 added, 0 removed, 0 changed\n",
     "[{\"column\":48,\"id\":7,\"line\":2,\"name\":\"NotTwo\",\"number\":16,\"path\":\"$/geometry/coordinates/0\"},\n"
     "{\"column\":55,\"id\":7,\"line\":2,\"name\":\"NotWhole\",\"number\":5,\"path\":\"$/geometry/coordinates/1/1\"},\n"
     "{\"column\":39,\"id\":7,\"line\":1,\"member\":\"a\",\"name\":\"PropertyNumber\",\"number\":13,\"path\":\"$/properties\"}]",
+    "PropertyNumber",
     "grid: 1,1,0,0\nbbox: 0,0,1,1\narcs: 1\npositions of arcs: 5\nfree loops: 1\nlayer \"a\": 1 feature, 1 Polygon\n",
 };
+
+/* The topology of two squares with ids, which are values of a property too. */
+static noshinka_bytes with_ids(void) {
+    noshinka_grid grid = {1, 1, 0, 0};
+    noshinka_source sources[2];
+    noshinka_bytes made;
+    uint8_t *room = block(4096);
+    sources[0] = source("a", NAMED("7", LEFT));
+    sources[1] = source("a", NAMED("\"e\"", RIGHT));
+    made.at = room;
+    made.length = noshinka_build(&grid, sources, 2, room, 4096).length;
+    return made;
+}
+
+static noshinka_outcome mesh(noshinka_bytes text, uint32_t scope, const char *layer, uint32_t edges, const char *property, uint8_t *room, size_t size) {
+    noshinka_mesh_options options = NOSHINKA_MESH_OPTIONS;
+    options.scope = scope;
+    options.layer = bytes(layer);
+    options.edges = edges;
+    options.property = bytes(property);
+    return noshinka_mesh(&options, text.at, text.length, room, size);
+}
+
+static noshinka_outcome neighbors(noshinka_bytes text, const char *layer, uint32_t lists, uint32_t kind, const char *property, uint8_t *room, size_t size) {
+    noshinka_neighbors_options options = NOSHINKA_NEIGHBORS_OPTIONS;
+    noshinka_bytes name = bytes(layer);
+    options.lists = lists;
+    options.kind = kind;
+    options.property = bytes(property);
+    return noshinka_neighbors(&options, text.at, text.length, name.at, name.length, room, size);
+}
+
+static noshinka_outcome diff(noshinka_bytes one, noshinka_bytes other, uint32_t scope, const char *layer, uint32_t pairing, uint32_t json, uint8_t *room, size_t size) {
+    noshinka_diff_options options = NOSHINKA_DIFF_OPTIONS;
+    options.scope = scope;
+    options.layer = bytes(layer);
+    options.pairing = pairing;
+    options.json = json;
+    return noshinka_diff(&options, one.at, one.length, other.at, other.length, room, size);
+}
+
+static noshinka_outcome edit(noshinka_bytes text, noshinka_bytes one, uint32_t kind, noshinka_bytes other, uint8_t *room, size_t size) {
+    noshinka_change changes[2];
+    changes[0].text = one;
+    changes[0].kind = NOSHINKA_ADD;
+    changes[1].text = other;
+    changes[1].kind = kind;
+    return noshinka_edit(text.at, text.length, changes, 2, room, size);
+}
+
+static noshinka_outcome round_one(const char *text, const char *step, uint32_t format, uint32_t report, uint8_t *room, size_t size) {
+    noshinka_round_options options = NOSHINKA_ROUND_OPTIONS;
+    noshinka_source one = source("a", text);
+    options.step = bytes(step);
+    options.format = format;
+    options.report = report;
+    return noshinka_round(&options, &one, 1, room, size);
+}
 
 static noshinka_outcome call(int which, uint8_t *room, size_t size) {
     noshinka_grid grid = {1, 1, 0, 0};
     noshinka_source sources[2];
-    noshinka_bytes texts[3], of_left = bytes(OF_LEFT), both = bytes(BOTH), name = bytes("a"), degrees;
+    noshinka_bytes texts[3], of_left = bytes(OF_LEFT), both = bytes(BOTH), name = bytes("a"), faulty;
     noshinka_outcome right;
     switch (which) {
     case BUILD:
@@ -129,19 +205,37 @@ static noshinka_outcome call(int which, uint8_t *room, size_t size) {
     case FEATURE:
         return noshinka_feature(of_left.at, of_left.length, name.at, name.length, room, size);
     case MESH:
-        return noshinka_mesh(both.at, both.length, NOSHINKA_ALL_LAYERS, name.at, 0, NOSHINKA_INTERIOR, room, size);
+        return mesh(both, NOSHINKA_ALL_LAYERS, "", NOSHINKA_INTERIOR, "", room, size);
     case MESH_OF_LAYER:
-        return noshinka_mesh(both.at, both.length, NOSHINKA_ONE_LAYER, name.at, name.length, NOSHINKA_EXTERIOR, room, size);
+        return mesh(both, NOSHINKA_ONE_LAYER, "a", NOSHINKA_EXTERIOR, "", room, size);
+    case MESH_BY:
+        return mesh(with_ids(), NOSHINKA_ALL_LAYERS, "", NOSHINKA_BY_PROPERTY, "p", room, size);
     case NEIGHBORS:
-        return noshinka_neighbors(both.at, both.length, name.at, name.length, 0, room, size);
-    case SNAP:
-        degrees = bytes(DEGREES);
-        return noshinka_snap(degrees.at, degrees.length, name.at, 0, room, size);
+        return neighbors(both, "a", NOSHINKA_PLACES, NOSHINKA_ALL_NEIGHBORS, "", room, size);
+    case NEIGHBORS_BY:
+        return neighbors(with_ids(), "a", NOSHINKA_PLACES, NOSHINKA_NEIGHBORS_BY, "p", room, size);
+    case NEIGHBOR_IDS:
+        return neighbors(with_ids(), "a", NOSHINKA_IDS, NOSHINKA_ALL_NEIGHBORS, "", room, size);
+    case KEYED:
+        return neighbors(with_ids(), "a", NOSHINKA_KEYED_IDS, NOSHINKA_ALL_NEIGHBORS, "", room, size);
+    case ROUND:
+        return round_one(DEGREES, "", NOSHINKA_GEOJSON, 0, room, size);
+    case ROUND_BUILD:
+        return round_one(DEGREES, "", NOSHINKA_TOPOLOGY, 0, room, size);
+    case REPORT:
+        return round_one(DEGREES, "", NOSHINKA_TOPOLOGY, 1, room, size);
+    case EDIT:
+        sources[0] = source("a", RIGHT);
+        texts[0].at = block(4096);
+        texts[0].length = noshinka_build(&grid, sources, 1, (uint8_t *)texts[0].at, 4096).length;
+        return edit(texts[0], of_left, NOSHINKA_TAKE, texts[0], room, size);
     case FAULTS:
-        degrees = bytes(FAULTY);
-        return noshinka_faults(degrees.at, degrees.length, NOSHINKA_GEOJSON, &grid, room, size);
+        faulty = bytes(FAULTY);
+        return noshinka_faults(faulty.at, faulty.length, NOSHINKA_GEOJSON, &grid, room, size);
+    case FAULT_NAME:
+        return noshinka_fault_name(13, room, size);
     case DIFF:
-        return noshinka_diff(of_left.at, of_left.length, both.at, both.length, NOSHINKA_ALL_LAYERS, name.at, 0, NOSHINKA_BY_ID, name.at, 0, 0, room, size);
+        return diff(of_left, both, NOSHINKA_ALL_LAYERS, "", NOSHINKA_BY_ID, 0, room, size);
     default:
         return noshinka_info(of_left.at, of_left.length, 0, room, size);
     }
@@ -173,7 +267,7 @@ static void look_at_rooms(int which) {
 static void look_at_faults(void) {
     noshinka_grid grid = {1, 1, 0, 0}, none = {0, 1, 0, 0}, tens = {10, 10, 0, 0};
     noshinka_source sources[2];
-    noshinka_bytes texts[2], both = bytes(BOTH), name = bytes("a"), other = bytes("q"), bad = bytes("\xff"), half = bytes("{}");
+    noshinka_bytes texts[2], both = bytes(BOTH), other = bytes("q"), bad = bytes("\xff"), half = bytes("{}");
     size_t path = strlen(HALF_AT);
     uint8_t *room = block(4096), *small = block(path - 1), *right = block(path);
     sources[0] = source("a", LEFT);
@@ -196,47 +290,87 @@ static void look_at_faults(void) {
     LOOK(memcmp(room, "$/type", 6) == 0);
     LOOK(is(noshinka_check(half.at, half.length, room, 4096), NOSHINKA_REFUSED, 2, 0, 6));
     LOOK(is(noshinka_feature(both.at, both.length, other.at, other.length, room, 4096), NOSHINKA_REFUSED, 19, 0, 0));
-    LOOK(is(noshinka_neighbors(both.at, both.length, other.at, other.length, 0, room, 4096), NOSHINKA_REFUSED, 19, 0, 0));
-    LOOK(is(noshinka_mesh(both.at, both.length, 1, other.at, other.length, 0, room, 4096), NOSHINKA_REFUSED, 19, 0, 0));
+    LOOK(is(neighbors(both, "q", NOSHINKA_PLACES, 0, "", room, 4096), NOSHINKA_REFUSED, 19, 0, 0));
+    LOOK(is(mesh(both, NOSHINKA_ONE_LAYER, "q", 0, "", room, 4096), NOSHINKA_REFUSED, 19, 0, 0));
     LOOK(is(noshinka_feature(both.at, both.length, bad.at, bad.length, room, 4096), NOSHINKA_USAGE, 0, 0, 0));
-    LOOK(is(noshinka_mesh(both.at, both.length, 2, name.at, name.length, 0, room, 4096), NOSHINKA_USAGE, 0, 0, 0));
-    LOOK(is(noshinka_mesh(both.at, both.length, 0, name.at, name.length, 3, room, 4096), NOSHINKA_USAGE, 0, 0, 0));
-    LOOK(is(noshinka_neighbors(both.at, both.length, name.at, name.length, 1, room, 4096), NOSHINKA_USAGE, 0, 0, 0));
-    LOOK(is(noshinka_neighbors(both.at, both.length, name.at, name.length, 2, room, 4096), NOSHINKA_USAGE, 0, 0, 0));
+    LOOK(is(mesh(both, 2, "a", 0, "", room, 4096), NOSHINKA_USAGE, 0, 0, 0));
+    LOOK(is(mesh(both, 0, "", 4, "", room, 4096), NOSHINKA_USAGE, 0, 0, 0));
+    LOOK(is(mesh(both, 0, "", NOSHINKA_BY_PROPERTY, "\xff", room, 4096), NOSHINKA_USAGE, 0, 0, 0));
+    LOOK(is(neighbors(both, "a", NOSHINKA_IDS, 0, "", room, 4096), NOSHINKA_USAGE, 0, 0, 0));
+    LOOK(is(neighbors(both, "a", NOSHINKA_KEYED_IDS, 0, "", room, 4096), NOSHINKA_USAGE, 0, 0, 0));
+    LOOK(is(neighbors(both, "a", 3, 0, "", room, 4096), NOSHINKA_USAGE, 0, 0, 0));
+    LOOK(is(neighbors(both, "a", 0, 2, "", room, 4096), NOSHINKA_USAGE, 0, 0, 0));
+    LOOK(is(neighbors(both, "a", 0, NOSHINKA_NEIGHBORS_BY, "\xff", room, 4096), NOSHINKA_USAGE, 0, 0, 0));
     LOOK(is(noshinka_info(both.at, both.length, 2, room, 4096), NOSHINKA_USAGE, 0, 0, 0));
     LOOK(is(noshinka_faults(both.at, both.length, NOSHINKA_TOPOLOGY, &none, room, 4096), NOSHINKA_DONE, 0, 0, 2));
     LOOK(memcmp(room, "[]", 2) == 0);
     LOOK(is(noshinka_faults(both.at, both.length, NOSHINKA_GEOJSON, &none, room, 4096), NOSHINKA_USAGE, 0, 0, 0));
     LOOK(is(noshinka_faults(both.at, both.length, 2, &none, room, 4096), NOSHINKA_USAGE, 0, 0, 0));
-    LOOK(is(noshinka_diff(both.at, both.length, texts[1].at, texts[1].length, 0, name.at, 0, 0, name.at, 0, 0, room, 4096), NOSHINKA_REFUSED, 17, 1, 0));
-    LOOK(is(noshinka_diff(both.at, both.length, half.at, half.length, 0, name.at, 0, 0, name.at, 0, 0, room, 4096), NOSHINKA_REFUSED, 2, 1, 6));
-    LOOK(is(noshinka_diff(both.at, both.length, both.at, both.length, 1, other.at, 1, 0, name.at, 0, 0, room, 4096), NOSHINKA_REFUSED, 19, 0, 0));
-    LOOK(is(noshinka_diff(both.at, both.length, both.at, both.length, 1, bad.at, 1, 0, name.at, 0, 0, room, 4096), NOSHINKA_USAGE, 0, 0, 0));
-    LOOK(is(noshinka_diff(both.at, both.length, both.at, both.length, 0, name.at, 0, 2, name.at, 0, 0, room, 4096), NOSHINKA_USAGE, 0, 0, 0));
-    LOOK(is(noshinka_diff(both.at, both.length, both.at, both.length, 0, name.at, 0, 0, name.at, 0, 2, room, 4096), NOSHINKA_USAGE, 0, 0, 0));
+    LOOK(is(diff(both, texts[1], 0, "", 0, 0, room, 4096), NOSHINKA_REFUSED, 17, 1, 0));
+    LOOK(is(diff(both, half, 0, "", 0, 0, room, 4096), NOSHINKA_REFUSED, 2, 1, 6));
+    LOOK(is(diff(both, both, 1, "q", 0, 0, room, 4096), NOSHINKA_REFUSED, 19, 0, 0));
+    LOOK(is(diff(both, both, 1, "\xff", 0, 0, room, 4096), NOSHINKA_USAGE, 0, 0, 0));
+    LOOK(is(diff(both, both, 0, "", 2, 0, room, 4096), NOSHINKA_USAGE, 0, 0, 0));
+    LOOK(is(diff(both, both, 0, "", 0, 2, room, 4096), NOSHINKA_USAGE, 0, 0, 0));
+    LOOK(is(edit(both, both, NOSHINKA_TAKE, texts[1], room, 4096), NOSHINKA_REFUSED, 17, 2, 0));
+    LOOK(is(edit(both, half, NOSHINKA_TAKE, both, room, 4096), NOSHINKA_REFUSED, 2, 1, 6));
+    LOOK(memcmp(room, "$/type", 6) == 0);
+    LOOK(is(edit(half, both, NOSHINKA_TAKE, both, room, 4096), NOSHINKA_REFUSED, 2, 0, 6));
+    LOOK(is(edit(both, both, 2, both, room, 4096), NOSHINKA_USAGE, 0, 0, 0));
+    LOOK(is(noshinka_fault_name(0, room, 4096), NOSHINKA_USAGE, 0, 0, 0));
+    LOOK(is(noshinka_fault_name(22, room, 4096), NOSHINKA_USAGE, 0, 0, 0));
+    LOOK(is(noshinka_fault_name(21, room, 4096), NOSHINKA_DONE, 0, 0, 5));
+    LOOK(memcmp(room, "Write", 5) == 0);
     release();
 }
 
-/* The first number is 604550 times a step of 1, and half as many of 2; 604550 degrees are too many. */
+/* 604550 lies halfway between multiples of 4, so it goes away from 0 in such steps; 604550 degrees are too many. */
 static void look_at_steps(void) {
-    noshinka_bytes text = bytes(METRES), one = bytes("1"), two = bytes("2.0"), none = bytes("0"), minus = bytes("-1"), word = bytes("1m");
-    noshinka_bytes open = bytes("{"), short_one = bytes("{\"type\":\"LineString\",\"coordinates\":[[0,0],[0.4,0.4]]}");
-    noshinka_bytes unclosed = bytes("{\"type\":\"Polygon\",\"coordinates\":[[[0,0],[4,4]]]}");
+    const char *folded = "{\"type\":\"LineString\",\"coordinates\":[[0,0],[0.4,0.4]]}";
+    const char *open = "{\"type\":\"Polygon\",\"coordinates\":[[[0,0],[4,4]]]}";
+    noshinka_round_options options = NOSHINKA_ROUND_OPTIONS;
+    noshinka_source one = source("a", METRES);
+    noshinka_scale scale = {NOSHINKA_NO_BYTES, 13};
     uint8_t *room = block(256);
-    LOOK(is(noshinka_snap(text.at, text.length, one.at, one.length, room, 256), NOSHINKA_DONE, 0, 0, strlen(IN_ONES)));
+    options.unit = bytes("1");
+    options.step = bytes("1");
+    options.format = NOSHINKA_GEOJSON;
+    LOOK(is(noshinka_round(&options, &one, 1, room, 256), NOSHINKA_DONE, 0, 0, strlen(IN_ONES)));
     LOOK(memcmp(room, IN_ONES, strlen(IN_ONES)) == 0);
-    LOOK(is(noshinka_snap(text.at, text.length, two.at, two.length, room, 256), NOSHINKA_DONE, 0, 0, strlen(IN_TWOS)));
-    LOOK(memcmp(room, IN_TWOS, strlen(IN_TWOS)) == 0);
-    LOOK(is(noshinka_snap(text.at, text.length, one.at, 0, room, 256), NOSHINKA_REFUSED, 6, 0, 15));
-    LOOK(memcmp(room, "$/coordinates/0", 15) == 0);
-    LOOK(is(noshinka_snap(short_one.at, short_one.length, one.at, one.length, room, 256), NOSHINKA_DONE, 0, 0, strlen(COLLAPSED)));
+    options.step = bytes("4.0");
+    LOOK(is(noshinka_round(&options, &one, 1, room, 256), NOSHINKA_DONE, 0, 0, strlen(IN_FOURS)));
+    LOOK(memcmp(room, IN_FOURS, strlen(IN_FOURS)) == 0);
+    LOOK(is(noshinka_round(&options, &one, 0, room, 256), NOSHINKA_DONE, 0, 0, strlen(NOTHING)));
+    LOOK(memcmp(room, NOTHING, strlen(NOTHING)) == 0);
+    options.step = bytes("0.5");
+    LOOK(is(noshinka_round(&options, &one, 1, room, 256), NOSHINKA_USAGE, 0, 0, 0));
+    options.step = bytes("1");
+    one.text = bytes(folded);
+    LOOK(is(noshinka_round(&options, &one, 1, room, 256), NOSHINKA_DONE, 0, 0, strlen(COLLAPSED)));
     LOOK(memcmp(room, COLLAPSED, strlen(COLLAPSED)) == 0);
-    LOOK(is(noshinka_snap(unclosed.at, unclosed.length, one.at, one.length, room, 256), NOSHINKA_REFUSED, 9, 0, 15));
+    options.collapsed = NOSHINKA_COLLAPSED_REFUSE;
+    LOOK(is(noshinka_round(&options, &one, 1, room, 256), NOSHINKA_REFUSED, 8, 0, 13));
+    one.text = bytes(open);
+    options.unclosed = NOSHINKA_FIX_NOT;
+    LOOK(is(noshinka_round(&options, &one, 1, room, 256), NOSHINKA_REFUSED, 9, 0, 15));
     LOOK(memcmp(room, "$/coordinates/0", 15) == 0);
-    LOOK(is(noshinka_snap(open.at, open.length, one.at, one.length, room, 256), NOSHINKA_REFUSED, 1, 0, 1));
-    LOOK(is(noshinka_snap(text.at, text.length, none.at, none.length, room, 256), NOSHINKA_USAGE, 0, 0, 0));
-    LOOK(is(noshinka_snap(text.at, text.length, minus.at, minus.length, room, 256), NOSHINKA_USAGE, 0, 0, 0));
-    LOOK(is(noshinka_snap(text.at, text.length, word.at, word.length, room, 256), NOSHINKA_USAGE, 0, 0, 0));
+    one.layer = bytes("\xff");
+    LOOK(is(noshinka_round(&options, &one, 1, room, 256), NOSHINKA_USAGE, 0, 0, 0));
+    options.scales = &scale;
+    options.scale_count = 1;
+    LOOK(is(noshinka_round(&options, &one, 0, room, 256), NOSHINKA_USAGE, 0, 0, 0));
+    options.scale_count = 0;
+    options.snap = 11;
+    LOOK(is(noshinka_round(&options, &one, 0, room, 256), NOSHINKA_USAGE, 0, 0, 0));
+    options.snap = 0;
+    options.size = 8;
+    LOOK(is(noshinka_round(&options, &one, 0, room, 256), NOSHINKA_USAGE, 0, 0, 0));
+    LOOK(is(round_one(METRES, "", 0, 0, room, 256), NOSHINKA_REFUSED, 6, 0, 15));
+    LOOK(memcmp(room, "$/coordinates/0", 15) == 0);
+    LOOK(is(round_one("{", "1", 0, 0, room, 256), NOSHINKA_REFUSED, 1, 0, 1));
+    LOOK(is(round_one(METRES, "0", 0, 0, room, 256), NOSHINKA_USAGE, 0, 0, 0));
+    LOOK(is(round_one(METRES, "-1", 0, 0, room, 256), NOSHINKA_USAGE, 0, 0, 0));
+    LOOK(is(round_one(METRES, "1m", 0, 0, room, 256), NOSHINKA_USAGE, 0, 0, 0));
     release();
 }
 

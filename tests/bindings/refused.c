@@ -35,7 +35,7 @@ void __wrap_free(void *old) {
     __real_free(old);
 }
 
-enum { SIZE = 1 << 16, CALLS = 16 };
+enum { SIZE = 1 << 16, CALLS = 22 };
 static uint8_t room[SIZE], kept[SIZE], map[SIZE];
 static size_t length;
 
@@ -58,9 +58,52 @@ static noshinka_outcome build(int which, uint8_t *to) {
 }
 
 /* In steps of 0.000001 for degrees, or in steps of which each number is 0, so that a line collapses. */
-static noshinka_outcome snap(const char *step) {
-    noshinka_bytes text = bytes("{\"type\":\"Feature\",\"properties\":{\"x\":1.50},\"geometry\":{\"type\":\"LineString\",\"coordinates\":[[0.5,1e1],[7.4386325,46.9510827]]}}");
-    return noshinka_snap(text.at, text.length, (const uint8_t *)step, strlen(step), room, SIZE);
+static noshinka_outcome round_text(const char *step, uint32_t format, uint32_t snap) {
+    noshinka_round_options options = NOSHINKA_ROUND_OPTIONS;
+    noshinka_scale scale = {NOSHINKA_NO_BYTES, 1};
+    noshinka_source sources[2];
+    scale.property = bytes("y");
+    options.step = options.unit = bytes(step);
+    options.format = format;
+    options.snap = snap;
+    options.scales = &scale;
+    options.report = options.scale_count = 1;
+    sources[0].layer = bytes("a");
+    sources[0].text = bytes("{\"type\":\"Feature\",\"properties\":{\"x\":1.50,\"y\":0.7},\"geometry\":{\"type\":\"LineString\",\"coordinates\":[[0.5,1e1],[7.4386325,46.9510827]]}}");
+    sources[1].layer = bytes("");
+    sources[1].text = bytes("{\"type\":\"Topology\",\"arcs\":[[[0.500001,10],[3,3],[9,1]]],\"objects\":{\"q\":{\"type\":\"LineString\",\"arcs\":[0]}}}");
+    return noshinka_round(&options, sources, 2, room, SIZE);
+}
+
+static noshinka_outcome mesh(uint32_t edges) {
+    noshinka_mesh_options options = NOSHINKA_MESH_OPTIONS;
+    options.edges = edges;
+    options.property = bytes("x");
+    return noshinka_mesh(&options, map, length, room, SIZE);
+}
+
+static noshinka_outcome neighbors(uint32_t lists, uint32_t kind) {
+    noshinka_neighbors_options options = NOSHINKA_NEIGHBORS_OPTIONS;
+    options.lists = lists;
+    options.kind = kind;
+    options.property = bytes("x");
+    return noshinka_neighbors(&options, map, length, (const uint8_t *)"a", 1, room, SIZE);
+}
+
+static noshinka_outcome diff(void) {
+    noshinka_diff_options options = NOSHINKA_DIFF_OPTIONS;
+    options.key = bytes("x");
+    options.pairing = options.json = 1;
+    return noshinka_diff(&options, map, length, map, length, room, SIZE);
+}
+
+static noshinka_outcome edit(void) {
+    noshinka_change changes[2];
+    changes[0].text.at = changes[1].text.at = map;
+    changes[0].text.length = changes[1].text.length = length;
+    changes[0].kind = NOSHINKA_TAKE;
+    changes[1].kind = NOSHINKA_ADD;
+    return noshinka_edit(map, length, changes, 2, room, SIZE);
 }
 
 static noshinka_outcome list_faults(const char *text, uint32_t format) {
@@ -77,16 +120,22 @@ static noshinka_outcome call(int which) {
     case 2: return noshinka_remove(map, length, map, length, room, SIZE);
     case 3: return noshinka_check(map, length, room, SIZE);
     case 4: return noshinka_feature(map, length, name, 1, room, SIZE);
-    case 5: return noshinka_mesh(map, length, 0, name, 0, 1, room, SIZE);
-    case 6: return noshinka_neighbors(map, length, name, 1, 1, room, SIZE);
+    case 5: return mesh(NOSHINKA_INTERIOR);
+    case 6: return neighbors(NOSHINKA_IDS, 0);
     case 7: return noshinka_info(map, length, 1, room, SIZE);
     case 8: return build(1, room);
-    case 9: return snap("");
-    case 10: return snap("1e12");
-    case 11: return noshinka_diff(map, length, map, length, 0, name, 0, 1, (const uint8_t *)"x", 1, 1, room, SIZE);
+    case 9: return round_text("", NOSHINKA_TOPOLOGY, 0);
+    case 10: return round_text("1e12", NOSHINKA_GEOJSON, 0);
+    case 11: return diff();
     case 12: return noshinka_check(map, length - 1, room, SIZE);
     case 13: return list_faults("{\"type\":\"Feature\",\"id\":\"a\",\"properties\":{\"x\":[0.5]},\"geometry\":{\"type\":\"Point\",\"coordinates\":[1.5]}}", 1);
     case 14: return list_faults("{\"type\":\"Topology\",\"arcs\":[[[0,0],[1,1]]],\"objects\":{\"a\":{\"type\":\"LineString\",\"arcs\":[0,7]}}}", 0);
+    case 15: return round_text("", NOSHINKA_GEOJSON, 2);
+    case 16: return mesh(NOSHINKA_BY_PROPERTY);
+    case 17: return neighbors(NOSHINKA_PLACES, NOSHINKA_NEIGHBORS_BY);
+    case 18: return neighbors(NOSHINKA_KEYED_IDS, 0);
+    case 19: return edit();
+    case 20: return noshinka_fault_name(13, room, SIZE);
     default: return noshinka_merge(texts, 1, room, 3);
     }
 }

@@ -4,13 +4,15 @@
 
 NOSHINKA_LIBRARY names the library, TOPOTOOL the program; where there is no program, the answers are compared with the rows
 themselves. A row is left out if its words are none of a call: help, wrong usage, files that can't be read. An answer is what
-the program would print and its status: the bytes of a text, or the line of an error with its number, name and path. Rows of
-togrid, which TOGRID names, are put through `snap` and `build` with a step: they do what it does with the options ROUNDED. Ends with a line of counts, and with status 1 where
-anything differs, or less than most rows were compared.
+the program would print and its status: the bytes of a text, or the line of an error. Rows of togrid, which TOGRID names, are put
+through `round` and `build`, which read the files. Ends with a line of counts, and with status 1 where anything differs, or
+less than most rows were compared.
 """
 
+import contextlib
 import json
 import os
+import pathlib
 import re
 import sys
 import tempfile
@@ -31,8 +33,8 @@ OPTIONS = {
     "remove": {},
     "check": {},
     "feature": {"--layer": True},
-    "mesh": {"--layer": True, "--edges": True},
-    "neighbors": {"--layer": True, "--ids": False},
+    "mesh": {"--layer": True, "--edges": True, "--by": True},
+    "neighbors": {"--layer": True, "--ids": False, "--by": True, "--keyed": False},
     "info": {"--json": False},
     "diff": {"--layer": True, "--key": True, "--json": False},
     "faults": {"--grid": True, "--json": False},
@@ -40,9 +42,13 @@ OPTIONS = {
 WANTED = {"build": "--grid", "feature": "--layer", "neighbors": "--layer"}
 CHOICES = {"--shape": rows.SHAPES, "--edges": ["all", "interior", "exterior"]}
 FILES = {"remove": 2, "check": 1, "feature": 1, "mesh": 1, "neighbors": 1, "info": 1, "diff": 2}
-ROUNDED = ["--reals", "text", "--unclosed", "refuse"]
+# The options of togrid that calls take, with a value or not.
+VALUES = ["step", "unit", "snap", "id", "layer", "heights", "reals", "unclosed", "collapsed", "folded", "collections", "rewind"]
+FLAGS = ["build", "number", "seq", "q"]
+# What togrid alone refuses, of what it is told by words.
+OF_WORDS = [b"several objects would be called", b"more than one file", b"bad reals", b"try '--help'"]
 LEAST_COMPARED = 1000
-LEAST_ROUNDED = 10
+LEAST_ROUNDED = 150
 
 
 class NoCall(Exception):
@@ -67,6 +73,8 @@ def parse(words):
         options[name] = (value if equals else left.pop(0)) if takes else True
         if options[name] not in CHOICES.get(name, [options[name]]):
             raise NoCall
+    if "--keyed" in options and "--ids" not in options or "--by" in options and "--edges" in options:
+        raise NoCall
     if WANTED.get(command, "") not in ["", *options] or len(files) != FILES.get(command, len(files) or 1):
         raise NoCall
     return command, options, files
@@ -86,9 +94,10 @@ def call(command, options, names, texts):
     if command == "feature":
         return noshinka.feature(texts[0], options["--layer"]), 0
     if command == "mesh":
-        return noshinka.mesh(texts[0], options.get("--layer"), options.get("--edges", "all")), 0
+        return noshinka.mesh(texts[0], options.get("--layer"), options.get("--edges", "all"), options.get("--by")), 0
     if command == "neighbors":
-        return noshinka.neighbors(texts[0], options["--layer"], ids="--ids" in options), 0
+        asked = {"ids": "--ids" in options, "by": options.get("--by"), "keyed": "--keyed" in options}
+        return noshinka.neighbors(texts[0], options["--layer"], **asked), 0
     if command == "diff":
         return differences(texts, options)
     if command == "faults":
@@ -128,12 +137,10 @@ def differences(texts, options):
     return found if "--json" in options else noshinka.diff(*texts, *asked, lines=True), int(bool(differs))
 
 
-def line_of(fault, files, options):
-    """The line of the program for a fault."""
-    kind = f"{fault.number} {fault.name}"
-    if fault.number == 19:
-        return f"{kind} {options['--layer']}"
-    return f"{files[fault.place]}: {kind}" + (f" {fault.path}" if fault.path else "")
+def line_of(fault, files):
+    """The line of the program for a fault: as it reads, with the name of the file."""
+    front, said = f"{fault.layer or f'text {fault.place}'}:", str(fault)
+    return f"{files[fault.place]}:{said.removeprefix(front)}" if said.startswith(front) else said
 
 
 def answered(words, lent, given):
@@ -151,52 +158,52 @@ def answered(words, lent, given):
         printed, status = call(command, options, names, texts)
         return bytes(printed), b"", status
     except noshinka.Fault as fault:
-        return b"", f"topotool: {line_of(fault, files, options)}\n".encode(), 4
-    except noshinka.Usage:
-        said = f"bad grid {options['--grid']}" if "--grid" in options else f"--ids: a feature without an id in layer {options['--layer']}"
-        return b"", f"topotool: {said}\n".encode(), 2
+        return b"", f"topotool: {line_of(fault, files)}\n".encode(), 4
+    except noshinka.Usage as usage:
+        return b"", f"topotool: {usage}\n".encode(), 2
 
 
 def rounding(words):
-    """The step, whether a topology is built, and the names and files of words of togrid. The calls count steps, as with --unit."""
-    step, unit, is_build, names, left = "degrees", None, False, [], list(words)
-    if "-q" not in left:
-        raise NoCall
-    left.remove("-q")
+    """The options of words of togrid, by the names of the calls, and the files with their names where they have one."""
+    options, files, left = {}, [], list(words)
     while left:
-        word = left.pop(0)
-        if word == "--step" and left:
-            step = left.pop(0)
-        elif word == "--unit" and left:
-            unit = left.pop(0)
-        elif word == "--build":
-            is_build = True
-        elif word.startswith("-"):
-            raise NoCall
+        option, equals, value = left.pop(0).partition("=")
+        name = option.lstrip("-")
+        if not option.startswith("-") or option == "-":
+            files.append((option, value) if equals else (None, option))
+        elif name in FLAGS and not equals:
+            options[name] = True
+        elif name in VALUES and (equals or left) and (name not in options or name == "reals"):
+            value = value if equals else left.pop(0)
+            scale = re.fullmatch("scale:(.*)=(10*)", value)
+            if name == "reals" and scale:
+                options.setdefault("scales", {}).setdefault(scale[1], int(scale[2]))
+            else:
+                options[name] = value
         else:
-            name, equals, file = word.partition("=")
-            names.append((name, file) if equals else (os.path.basename(word).partition(".")[0], word))
-            if word.endswith((".ndjson", ".geojsonl", ".geojsons")):
-                raise NoCall
-    if unit != (None if step == "degrees" else step):
+            raise NoCall
+    if not re.fullmatch("[0-9]+", options.get("snap", "0")):
         raise NoCall
-    return step, is_build, names
+    return {**options, "snap": int(options.get("snap", "0"))}, files
 
 
-def rounded(words, lent):
-    """What togrid would print for some words, and its status, by the package. The line of an error is the front of togrid's."""
-    step, is_build, names = rounding(words)
-    files = [file for _, file in names]
-    if any(file not in lent or b'"Topology"' in lent[file] for file in files) or not (is_build or len(files) == 1):
+def rounded(words, files):
+    """What togrid would print for some words, and its status, by the package."""
+    options, sources = rounding(words)
+    options.pop("q", None)
+    is_build = options.pop("build", False)
+    if any(file not in files for _, file in sources) or not sources or not (is_build or len(sources) == 1):
         raise NoCall
+    layers = [(name, pathlib.Path(file)) if name is not None else pathlib.Path(file) for name, file in sources]
     try:
-        if is_build:
-            return bytes(noshinka.build([(name, lent[file]) for name, file in names], step=step)), b"", 0
-        return bytes(noshinka.snap(lent[files[0]], step)), b"", 0
+        call = noshinka.build if is_build else noshinka.round
+        return bytes(call(layers, **options, report=False)), b"", 0
     except noshinka.Fault as fault:
-        return b"", f"togrid: {line_of(fault, files, {})}".encode(), 4
-    except noshinka.Usage:
-        raise NoCall from None
+        return b"", f"togrid: {fault}\n".encode(), 4
+    except noshinka.Usage as usage:
+        if usage.argument in ("layers", "seq"):
+            raise NoCall from None
+        return b"", f"togrid: {usage}\n".encode(), 2
 
 
 def wanted(row, lent):
@@ -206,8 +213,7 @@ def wanted(row, lent):
         with tempfile.TemporaryDirectory() as folder:
             for name, text in lent.items():
                 rows.lay(folder, name, text)
-            words = row["words"] if program == "topotool" else [*ROUNDED, *row["words"]]
-            ran = rows.called(folder, words, row.get("input", b""), program)
+            ran = rows.called(folder, row["words"], row.get("input", b""), program)
         return ran.stdout, ran.stderr, ran.returncode
     if program == "togrid" or {"answers", "complains", "help", "ending"} & row.keys():
         return None
@@ -234,16 +240,20 @@ def judge(run):
 
 
 def judge_rounded(theme, row, lent):
-    """The same of a row of togrid."""
+    """The same of a row of togrid, whose files are read by the package."""
     try:
-        printed, line, status = rounded(row["words"], lent)
+        with tempfile.TemporaryDirectory() as folder, contextlib.chdir(folder):
+            for name, text in lent.items():
+                rows.lay(folder, name, text)
+            came = rounded(row["words"], lent)
     except NoCall:
         return "left out", ""
     right = wanted(row, lent)
-    if right is None:
+    if right is None or any(it in right[1] for it in OF_WORDS):
         return "left out", ""
-    same = (printed, status) == (right[0], right[2]) and right[1].startswith(line) and bool(line) == bool(right[1])
-    return "rounded", "" if same else f"{theme}: {row['title']}\n  wanted {right}\n  came   {(printed, line, status)}\n"
+    if "-q" not in row["words"] and right[2] == 0:
+        right = (right[0], b"", 0)
+    return "rounded", "" if came == right else f"{theme}: {row['title']}\n  words  {row['words']}\n  wanted {right}\n  came   {came}\n"
 
 
 def main():

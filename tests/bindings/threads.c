@@ -11,6 +11,7 @@
 enum { SIZE = 1 << 16, SQUARES = 40, MOST = 16 };
 static uint8_t map[SIZE], right[SIZE];
 static size_t length, right_length;
+static noshinka_neighbors_options lists = NOSHINKA_NEIGHBORS_OPTIONS;
 static const char degrees[] = "{\"type\":\"Point\",\"coordinates\":[7.4386325,46.9510827]}",
     snapped[] = "{\"features\":[{\"geometry\":{\"coordinates\":[7438633,46951083],\"type\":\"Point\"},\"properties\":{},\"type\":\"Feature\"}],"
                 "\"type\":\"FeatureCollection\"}";
@@ -35,15 +36,21 @@ static noshinka_outcome build(uint8_t *room) {
 
 static void *run(void *nothing) {
     noshinka_bytes texts[2] = {{map, length}, {map, length}};
+    noshinka_change changes[2] = {{{map, length}, NOSHINKA_TAKE}, {{map, length}, NOSHINKA_ADD}};
+    noshinka_round_options options = NOSHINKA_ROUND_OPTIONS;
+    noshinka_source source = {{(const uint8_t *)"a", 1}, {(const uint8_t *)degrees, strlen(degrees)}};
     uint8_t *room = (uint8_t *)calloc(SIZE, 1);
     long n, same = room != NULL;
     (void)nothing;
+    options.format = NOSHINKA_GEOJSON;
     for (n = 0; same && n < times; n++) {
         noshinka_outcome merged = noshinka_merge(texts, 2, room, SIZE);
         same &= merged.status == NOSHINKA_DONE && merged.length == length && !memcmp(room, map, length);
-        noshinka_outcome asked = noshinka_neighbors(map, length, (const uint8_t *)"a", 1, 0, room, SIZE);
+        noshinka_outcome asked = noshinka_neighbors(&lists, map, length, (const uint8_t *)"a", 1, room, SIZE);
         same &= asked.status == NOSHINKA_DONE && asked.length == right_length && !memcmp(room, right, right_length);
-        noshinka_outcome rounded = noshinka_snap((const uint8_t *)degrees, strlen(degrees), map, 0, room, SIZE);
+        noshinka_outcome edited = noshinka_edit(map, length, changes, 2, room, SIZE);
+        same &= edited.status == NOSHINKA_DONE && edited.length == length && !memcmp(room, map, length);
+        noshinka_outcome rounded = noshinka_round(&options, &source, 1, room, SIZE);
         same &= rounded.status == NOSHINKA_DONE && rounded.length == strlen(snapped) && !memcmp(room, snapped, strlen(snapped));
     }
     free(room);
@@ -57,7 +64,7 @@ int main(int count, char **words) {
     times = count > 2 ? atol(words[2]) : 1;
     if (of > MOST) return 2;
     length = build(map).length;
-    right_length = noshinka_neighbors(map, length, (const uint8_t *)"a", 1, 0, right, SIZE).length;
+    right_length = noshinka_neighbors(&lists, map, length, (const uint8_t *)"a", 1, right, SIZE).length;
     for (n = 0; n < of; n++)
         if (pthread_create(&threads[n], NULL, run, NULL)) return 2;
     for (n = 0; n < of; n++) {
