@@ -34,7 +34,7 @@ use Rattle.theory.proofs.VisitedAgain.{Trail-turn, ring_turn}
 use Rattle.theory.specs.ArcNumbers.{ArcRef, StitchTo, Uses}
 use Rattle.theory.specs.Chain.{IsChain}
 use Rattle.theory.specs.Geometry.{AtMost, Geometry, IsLineOf, IsRingOf, IsSound, JunctionOf, SegmentOf}
-use Rattle.theory.specs.Healing.{IsKept, IsLineEnd}
+use Rattle.theory.specs.Healing.{IsKept}
 use Rattle.theory.specs.LinesAndRings.{closed}
 use Rattle.theory.specs.Lists.{Beside, EndOf, Has}
 use Rattle.theory.specs.Network.{IsNetwork, Joins, Network}
