@@ -1,5 +1,5 @@
 -- Chosen arcs are those that a map uses that is a part of another: what they are joined to are the maximal lines over their segments.
-use Rattle.std.proofs.Common.{◌≡◌, ◌<◌, ℕ, zero, suc, Bool, true, false, List, [], ◌∷◌, ◌++◌, length, get_or, map, replicate, ◌⊎◌, ◌↔◌, inl, inr, refl, sym, ap, ◌∙◌, subst, Some, slice_get, arith}
+use Rattle.std.proofs.Common.{◌≡◌, ◌<◌, ℕ, zero, suc, Bool, true, false, List, [], ◌∷◌, length, get_or, map, replicate, ◌⊎◌, ◌↔◌, inl, inr, refl, sym, ap, ◌∙◌, subst, Some, slice_get, arith}
 use Rattle.std.proofs.lemmas.List.{length-replicate, length-set}
 use Rattle.std.proofs.lemmas.Option.{slice_get-get_or, slice_get_within}
 use Rattle.grid.specs.declared.pos.Pos.{Pos}
@@ -309,7 +309,7 @@ module _ (m : Geometry Pos) (sound : IsSound m) (t : Arcs) (table : IsTableOf m 
     lines_are : (lines : Arcs) → IsTableOf g lines → AreLinesOver segs lines
     lines_are lines k = record {
       stops = stops;
-      exact = (halts_stops t.arcs ks segs stops has halts).1;
+      exact = halts_stops t.arcs ks segs stops has halts;
       maximal = record {
         ascends = k.arcs.sorted;
         only = λ c h. let a = k.arcs.arcs_only c h in (chain_over c a.chain, a.forward);
