@@ -5,8 +5,8 @@ use std::fmt;
 #[derive(Clone, PartialEq, Eq, Debug)]
 #[non_exhaustive]
 pub enum Error {
-    /// A number of a grid or of options is outside its limits; or ids are asked for, and a feature has none, or two have one that is
-    /// a key.
+    /// A number of a grid or of options is outside its limits; or ids are asked for and a feature has none, or keys and two features
+    /// have one id.
     Usage,
     /// A text is refused.
     Fault(Fault),
@@ -122,7 +122,7 @@ impl fmt::Display for Error {
     fn fmt(&self, f: &mut fmt::Formatter<'_>) -> fmt::Result {
         match self {
             Error::Usage => f.write_str(
-                "a number of a grid or of options is outside its limits, or ids are missing or no keys",
+                "a number of a grid or of options is outside its limits, or a feature has no id of its own",
             ),
             Error::Fault(fault) => fault.fmt(f),
             Error::OutOfMemory => f.write_str("out of memory"),

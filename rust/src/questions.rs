@@ -89,7 +89,7 @@ pub fn mesh(text: &[u8], layer: Option<&str>, edges: Edges<'_>) -> Result<Vec<u8
 ///
 /// # Errors
 /// [`Error::Fault`], [`NoLayer`](crate::FaultKind::NoLayer) if there is no such layer; [`Error::Usage`] if ids are asked for and a
-/// feature has none, or by ids and two features have one; [`Error::OutOfMemory`].
+/// feature has none, or keys and two features have one id; [`Error::OutOfMemory`].
 pub fn neighbors(
     text: &[u8],
     layer: &str,
