@@ -1,21 +1,17 @@
 -- Lemmas on what is reported of each error of a text.
-use Rattle.std.proofs.Common.{◌≡◌, ℕ, ◌<◌, ◌≤◌, ◌-◌, All, Err, IfOk, IfSome, List, [], ◌++◌, None, Ok, Option, Result, Some, ap, arith, get_or, inl, inr, length, slice_get, string_bytes, subst, sym, take, vec_len, ◌∙◌}
+use Rattle.std.proofs.Common.{◌≡◌, ℕ, ◌<◌, ◌≤◌, ◌-◌, All, Err, IfOk, IfSome, List, [], ◌++◌, None, Ok, Option, Result, Some, arith, get_or, inl, inr, length, slice_get, subst, sym, take, vec_len, ◌∙◌}
 use Rattle.std.specs.Borrow.{Bor}
 use Rattle.std.specs.Global.{Vec}
 use Rattle.std.specs.Option.{option_copied, option_to_list}
-use Rattle.std.specs.Prelude.{String, option_map, unwrap_or}
-use Rattle.std.specs.declared.alloc.Global.{Global}
+use Rattle.std.specs.Prelude.{unwrap_or}
 use Rattle.std.proofs.lemmas.List.Elements.{All-get_or, All-head, All-tail}
 use Rattle.std.proofs.lemmas.Option.{get_or_from_slice_get, slice_get-get_or, slice_get_within}
-use Rattle.faults.specs.Path.{Turn}
 use Rattle.faults.specs.declared.fault.Fault.{Fault}
 use Rattle.serde_json.specs.Data.{Data}
 use Rattle.serde_json.specs.Read.{read}
-use Rattle.serde_json.specs.Written.{compact_text}
 use Rattle.outputs.specs.FaultPlaces.{AreUpTo}
-use Rattle.outputs.specs.FaultyFeatures.{faulty_id}
 use Rattle.outputs.specs.LineColumns.{place_behind}
-use Rattle.outputs.specs.ReportsOfTexts.{HasItsId, IsIdAt, IsPlaceIn, IsReadAs, IsReport, IsReportOf, turns_of}
+use Rattle.outputs.specs.ReportsOfTexts.{HasItsId, IsPlaceIn, IsReadAs, IsReport, IsReportOf}
 use Rattle.outputs.specs.declared.fault_reports.features.Format.{Format}
 use Rattle.outputs.specs.declared.fault_reports.line_columns.LineColumn.{LineColumn}
 use Rattle.outputs.specs.declared.fault_reports.report.FaultReport.{FaultReport}
@@ -76,8 +72,3 @@ last_has format bytes text rs (Some b) reads all e =
     let is : get_or rs k b.now ≡ b.now = get_or_from_slice_get rs k b.now b.now (sym e) in
     let h : IsReport format bytes b.now = subst (IsReport format bytes) is (All-get_or (IsReport format bytes) rs k b.now (slice_get_within rs k b.now (sym e)) all) in
     subst (λ t. HasItsId format t b.now) (read_once bytes h.text text h.reads reads) h.says.id
-
--- an id that is shared
-pub id_shared : (format : Format) (text : Data) (r : FaultReport) (path : List Turn) (o : Option (String Global)) → o ≡ r.id → faulty_id format text (turns_of r.fault) ≡ faulty_id format text path
-    → HasItsId format text r → IsIdAt format text path o
-id_shared format text r path o e same is = ap (option_map (λ s. string_bytes s)) e ∙ is ∙ ap (option_map compact_text) same

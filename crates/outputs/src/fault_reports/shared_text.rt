@@ -22,7 +22,7 @@ impl Model for SharedText {
 
 impl SharedText {
     /// A text with one owner.
-    pub fn new(alloc: Global, text: String) -> Result<SharedText, AllocError>
+    pub(crate) fn new(alloc: Global, text: String) -> Result<SharedText, AllocError>
         ensures { IfOk result (λ s. s ≡ text) }
     {
         let text = Rc::new(alloc, text)?;
@@ -30,7 +30,7 @@ impl SharedText {
     }
 
     /// One more owner of the same text.
-    pub fn share(&self) -> Result<SharedText, AllocError>
+    pub(crate) fn share(&self) -> Result<SharedText, AllocError>
         ensures { IfOk result (λ s. s ≡ self.now) }
     {
         let text = self.text.clone()?;
