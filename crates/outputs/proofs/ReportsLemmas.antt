@@ -1,15 +1,17 @@
 -- Lemmas on what is reported of each error of a text.
-use Rattle.std.proofs.Common.{◌≡◌, ℕ, ◌<◌, ◌≤◌, ◌-◌, All, Err, IfOk, IfSome, List, [], ◌++◌, None, Ok, Option, Result, Some, arith, get_or, inl, inr, length, slice_get, subst, sym, take, vec_len, ◌∙◌}
+use Rattle.std.proofs.Common.{◌≡◌, ℕ, ◌<◌, ◌≤◌, ◌-◌, All, Err, IfOk, IfSome, List, [], ◌++◌, None, Ok, Option, Result, Some, arith, get_or, inl, inr, length, map, slice_get, subst, sym, take, vec_len, ◌∷◌, ◌∙◌}
 use Rattle.std.specs.Borrow.{Bor}
 use Rattle.std.specs.Global.{Vec}
 use Rattle.std.specs.Option.{option_copied, option_to_list}
 use Rattle.std.specs.Prelude.{unwrap_or}
+use Rattle.std.proofs.lemmas.Grind.{common_steps}
 use Rattle.std.proofs.lemmas.List.Elements.{All-get_or, All-head, All-tail}
 use Rattle.std.proofs.lemmas.Option.{get_or_from_slice_get, slice_get-get_or, slice_get_within}
 use Rattle.faults.specs.declared.fault.Fault.{Fault}
 use Rattle.serde_json.specs.Data.{Data}
 use Rattle.serde_json.specs.Read.{read}
 use Rattle.outputs.specs.FaultPlaces.{AreUpTo}
+use Rattle.outputs.specs.FaultReports.{reported_fault}
 use Rattle.outputs.specs.LineColumns.{place_behind}
 use Rattle.outputs.specs.ReportsOfTexts.{HasItsId, IsPlaceIn, IsReadAs, IsReport, IsReportOf}
 use Rattle.outputs.specs.declared.fault_reports.features.Format.{Format}
@@ -64,11 +66,17 @@ read_once bytes a b (inr p) (inl q) = absurd (some_or_none (read bytes) b (p.0 q
 read_once bytes a b (inr p) (inr q) = p.1 ∙ sym q.1
 
 -- the last report has the id of its feature
-pub last_has : (format : Format) (bytes : List ℕ) (text : Data) (rs : List FaultReport) (last : Option (Bor FaultReport)) → IsReadAs bytes text → All (IsReport format bytes) rs
-    → option_copied last ≡ slice_get rs (length rs - 1) → IfSome last (λ r. HasItsId format text r.now)
-last_has format bytes text rs None reads all e = tt
-last_has format bytes text rs (Some b) reads all e =
+pub last_has : (format : Format) (bytes : List ℕ) (text : Data) (slice rs : List FaultReport) (last : Option (Bor FaultReport)) → IsReadAs bytes text → All (IsReport format bytes) rs
+    → slice ≡ rs → option_copied last ≡ slice_get slice (length slice - 1) → IfSome last (λ r. HasItsId format text r.now)
+last_has format bytes text slice rs None reads all same e = tt
+last_has format bytes text slice rs (Some b) reads all same at =
+    let e : Some b.now ≡ slice_get rs (length rs - 1) = subst (λ it. Some b.now ≡ slice_get it (length it - 1)) same at in
     let k : ℕ = length rs - 1 in
     let is : get_or rs k b.now ≡ b.now = get_or_from_slice_get rs k b.now b.now (sym e) in
     let h : IsReport format bytes b.now = subst (IsReport format bytes) is (All-get_or (IsReport format bytes) rs k b.now (slice_get_within rs k b.now (sym e)) all) in
     subst (λ t. HasItsId format t b.now) (read_once bytes h.text text h.reads reads) h.says.id
+
+-- one report more, of the next error
+pub one_more_reported : (rs more : List FaultReport) (r : FaultReport) (f : Fault) (left rest faults : List Fault) → (map reported_fault rs ++ left) ≡ faults → left ≡ (f ∷ rest)
+    → more ≡ (rs ++ (r ∷ [])) → r.fault ≡ f → (map reported_fault more ++ rest) ≡ faults
+one_more_reported rs more r f left rest faults before next push is = grind (arith, common_steps)

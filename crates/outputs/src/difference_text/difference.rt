@@ -16,7 +16,7 @@ use crate::difference_text::DifferenceOptions;
 use crate::difference_text::fault::DifferenceFault;
 use crate::difference_text::geometry::{GeometryChange, is_turned};
 use crate::difference_text::members::{MemberChange, member_changes};
-use crate::difference_text::vertices::SharedArcs;
+use crate::difference_text::vertices::PassedPoints;
 use compare::{Changed, Comparison, LayerDifference, LayerPair, compare, property_text};
 use faults::OutOfMemory;
 use std::alloc::{AllocError, Global};
@@ -192,7 +192,7 @@ fn changes_asked(
         return Err(OutOfMemory);
     };
     let pairs = pairs_asked(alloc, &comparison, options.layer)?;
-    let arcs = SharedArcs::of(alloc, &comparison, &pairs)?;
+    let passed = PassedPoints::of(alloc, &comparison, &pairs)?;
     let key = options.key;
     let mut layers = Vec::new(alloc);
     for pair in &pairs {
@@ -200,7 +200,7 @@ fn changes_asked(
             old,
             new,
             comparison: &comparison,
-            arcs: &arcs,
+            passed: &passed,
             pair: *pair,
             key,
         };
@@ -228,14 +228,14 @@ fn pairs_asked(
     Ok(pairs)
 }
 
-/// Two topologies, by their own arcs and by those of both, these arcs, two of their layers, and the property by which
-/// features pair.
+/// Two topologies, by their own arcs and by those of both, the points inside of these, two of their layers, and the property
+/// by which features pair.
 #[derive(Clone, Copy)]
 struct BothLayers<'a> {
     old: &'a Topology,
     new: &'a Topology,
     comparison: &'a Comparison,
-    arcs: &'a SharedArcs<'a>,
+    passed: &'a PassedPoints,
     pair: LayerPair,
     key: Option<&'a str>,
 }
@@ -352,7 +352,8 @@ impl<'a> BothLayers<'a> {
         if is_turned(&old.body, &new.body) {
             return Ok(Some(GeometryChange::Direction));
         }
-        Ok(Some(self.arcs.change(alloc, &old.body, &new.body)?))
+        let arcs = self.comparison.arcs();
+        Ok(Some(self.passed.change(alloc, arcs, &old.body, &new.body)?))
     }
 }
 

@@ -9,11 +9,10 @@ use std::alloc::{AllocError, Global};
 use std::collections::BTreeMap;
 use topo::{Body, Geom};
 
-/// The arcs of two topologies together, and the points that lie inside of one, with its number: those of layers that have
-/// lines or rings in the other topology.
+/// The points that lie inside of an arc of two topologies together, with its number: those of layers that have lines or rings
+/// in the other topology.
 #[derive(Drop)]
-pub(crate) struct SharedArcs<'a> {
-    table: &'a ArcTable,
+pub(crate) struct PassedPoints {
     passed: BTreeMap<Pos, usize>,
 }
 
@@ -26,30 +25,30 @@ struct Vertices {
     places: Vec<Pos>,
 }
 
-impl<'a> SharedArcs<'a> {
+impl PassedPoints {
     /// Those of a comparison of which these layers are asked for.
     pub(crate) fn of(
         alloc: Global,
-        comparison: &'a Comparison,
+        comparison: &Comparison,
         pairs: &[LayerPair],
-    ) -> Result<SharedArcs<'a>, AllocError> {
-        let table = comparison.arcs();
+    ) -> Result<PassedPoints, AllocError> {
         let points = points_beside(alloc, comparison, pairs)?;
-        let passed = passed_points(alloc, table, &points)?;
-        Ok(SharedArcs { table, passed })
+        let passed = passed_points(alloc, comparison.arcs(), &points)?;
+        Ok(PassedPoints { passed })
     }
 
-    /// What differs between two geometries by these arcs, which are not the same.
+    /// What differs between two geometries by the arcs of a table, which are not the same.
     pub(crate) fn change(
         &self,
         alloc: Global,
+        table: &ArcTable,
         old: &Body,
         new: &Body,
     ) -> Result<GeometryChange, AllocError> {
-        let olds = Vertices::of(alloc, self.table, old)?;
-        let news = Vertices::of(alloc, self.table, new)?;
-        let gone = self.count_alone(&olds, &news);
-        let new_ones = self.count_alone(&news, &olds);
+        let olds = Vertices::of(alloc, table, old)?;
+        let news = Vertices::of(alloc, table, new)?;
+        let gone = self.count_alone(table, &olds, &news);
+        let new_ones = self.count_alone(table, &news, &olds);
         if gone == 0 && new_ones == 0 && kind_of(old) == kind_of(new) {
             return Ok(GeometryChange::Order);
         }
@@ -60,8 +59,8 @@ impl<'a> SharedArcs<'a> {
     }
 
     /// How many vertices one has, and not the other.
-    fn count_alone(&self, one: &Vertices, other: &Vertices) -> usize {
-        let inside = count_inside(self.table, &one.arcs, &other.arcs);
+    fn count_alone(&self, table: &ArcTable, one: &Vertices, other: &Vertices) -> usize {
+        let inside = count_inside(table, &one.arcs, &other.arcs);
         let all = inside.saturating_add(count_missing(&one.places, &other.places));
         let on_others = self.count_passed(&one.places, &other.arcs);
         let on_own = self.count_passed(&other.places, &one.arcs);
