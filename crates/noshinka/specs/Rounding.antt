@@ -16,7 +16,7 @@ use Rattle.topo.specs.OfMap.{seen_parts}
 use Rattle.topo.specs.Parts.{TopologyParts}
 use Rattle.topo_io.specs.TopologyText.{topology_text}
 use Rattle.noshinka.specs.Options.{name_if}
-use Rattle.noshinka.specs.ReportText.{report_if}
+use Rattle.report_texts.specs.ReportText.{report_if}
 use Rattle.noshinka.specs.RoundOptions.{AreRules, HaveUnits, IsSize, IsUnits, are_choices, numeral_of, scale_of, scale_pair}
 use Rattle.noshinka.specs.Why.{HasBadName, HasBadScope, of_maps}
 use Rattle.noshinka.specs.declared.refusal.CallRefusal.{CallRefusal}
