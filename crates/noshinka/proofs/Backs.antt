@@ -27,7 +27,7 @@ use Rattle.noshinka.specs.RoundOptions.{IsSize, numeral_of}
 use Rattle.noshinka.specs.Rounding.{IsScaleRefusal}
 use Rattle.noshinka.specs.WayBack.{IsBackAnswer, IsBackRefusal, IsBackText, IsBackTextRefusal, IsBoxRefusal, IsLike, IsLikeRefusal, IsLikeTextRefusal, IsOfBox, IsOwnRefusal, IsOwnText, IsTextOn, fault_at, like_fault, of_decimal, unit_of}
 use Rattle.noshinka.specs.Why.{IsBadName, IsFaultAt, IsTextRefusal}
-use Rattle.noshinka.specs.declared.back_options.BackOptions.{BackOptions}
+use Rattle.noshinka.specs.declared.back_options.WayBackOptions.{WayBackOptions}
 use Rattle.noshinka.specs.declared.refusal.CallRefusal.{CallRefusal}
 use Rattle.noshinka.specs.declared.refusal.CallRefusal.TheVariants.{BadGrid, BadName, BadChoice, NoId, Text, OtherGrid, NoText, BadPlan, NoLayer, OutOfMemory}
 
@@ -53,10 +53,10 @@ property_refused ps i d below NoText h = absurd h
 property_refused ps i d below (BadPlan k) h = absurd h
 property_refused ps i d below NoLayer h = absurd h
 
-pub names_property : (o : BackOptions) (ps : List (Bor (List ℕ))) → map (λ p. p.now) ps ≡ properties_of o → (r : CallRefusal) → IsPropertyRefusal (map (λ p. p.now) ps) r → IsBackNamesRefusal o r
+pub names_property : (o : WayBackOptions) (ps : List (Bor (List ℕ))) → map (λ p. p.now) ps ≡ properties_of o → (r : CallRefusal) → IsPropertyRefusal (map (λ p. p.now) ps) r → IsBackNamesRefusal o r
 names_property o ps e r h = inl (subst (λ l. IsPropertyRefusal l r) e h)
 
-pub names_scale : (o : BackOptions) (r : CallRefusal) → IsScaleRefusal o.scales.now r → IsBackNamesRefusal o r
+pub names_scale : (o : WayBackOptions) (r : CallRefusal) → IsScaleRefusal o.scales.now r → IsBackNamesRefusal o r
 names_scale o r h = inr h
 
 -- ---- texts
@@ -146,48 +146,48 @@ one_true true b h = inl refl
 one_true false b h = inr h
 
 -- numbers along each axis are at least two, where they are asked for
-two_at_least : (o : BackOptions) → are_back_choices o ≡ true → 2 ≤ o.transform → 2 ≤ o.count
+two_at_least : (o : WayBackOptions) → are_back_choices o ≡ true → 2 ≤ o.transform → 2 ≤ o.count
 two_at_least o chosen other = go (one_true _ _ (and_parts _ _ (and_parts _ _ chosen).0).1)
   where
     go : (nat_lt o.transform 2 ≡ true) ⊎ ((nat_le 2 o.count && nat_le o.count (2 ^ 40)) ≡ true) → 2 ≤ o.count
     go (inl few) = let less = ltb-true o.transform 2 few in absurd (omega (arith, less))
     go (inr both) = leb-true 2 o.count (and_parts _ _ both).0
 
-pub some_count : (o : BackOptions) → are_back_choices o ≡ true → 2 ≤ o.transform → 1 ≤ o.count
+pub some_count : (o : WayBackOptions) → are_back_choices o ≡ true → 2 ≤ o.transform → 1 ≤ o.count
 some_count o chosen other = let two = two_at_least o chosen other in omega (arith, two)
 
-pub some_steps : (o : BackOptions) → are_back_choices o ≡ true → 2 ≤ o.transform → 1 ≤ o.count - 1
+pub some_steps : (o : WayBackOptions) → are_back_choices o ≡ true → 2 ≤ o.transform → 1 ≤ o.count - 1
 some_steps o chosen other = let two = two_at_least o chosen other in omega (arith, two)
 
-pub own_asked : (o : BackOptions) (u : Measure) (rules : BackRules) (text t : List ℕ) → o.transform ≡ 0 → IsOwnText u rules text t → IsBackText o u rules text t
+pub own_asked : (o : WayBackOptions) (u : Measure) (rules : BackRules) (text t : List ℕ) → o.transform ≡ 0 → IsOwnText u rules text t → IsBackText o u rules text t
 own_asked o u rules text t e h = inl (e, h)
 
-pub like_asked : (o : BackOptions) (u : Measure) (rules : BackRules) (text t : List ℕ) → o.transform ≡ 1 → IsTextOn (IsLike u (without_mark o.like.now)) rules text t → IsBackText o u rules text t
+pub like_asked : (o : WayBackOptions) (u : Measure) (rules : BackRules) (text t : List ℕ) → o.transform ≡ 1 → IsTextOn (IsLike u (without_mark o.like.now)) rules text t → IsBackText o u rules text t
 like_asked o u rules text t e h = inr (inl (e, h))
 
-pub box_asked : (o : BackOptions) (u : Measure) (rules : BackRules) (text t : List ℕ) → 2 ≤ o.transform → IsTextOn (IsOfBox u (o.count - 1)) rules text t → IsBackText o u rules text t
+pub box_asked : (o : WayBackOptions) (u : Measure) (rules : BackRules) (text t : List ℕ) → 2 ≤ o.transform → IsTextOn (IsOfBox u (o.count - 1)) rules text t → IsBackText o u rules text t
 box_asked o u rules text t e h = inr (inr (e, h))
 
-pub own_not : (o : BackOptions) (u : Measure) (text : List ℕ) (r : CallRefusal) → o.transform ≡ 0 → IsOwnRefusal u text r → IsBackTextRefusal o u text r
+pub own_not : (o : WayBackOptions) (u : Measure) (text : List ℕ) (r : CallRefusal) → o.transform ≡ 0 → IsOwnRefusal u text r → IsBackTextRefusal o u text r
 own_not o u text r e h = inl (e, h)
 
-pub like_not : (o : BackOptions) (u : Measure) (text : List ℕ) (r : CallRefusal) → o.transform ≡ 1 → IsLikeTextRefusal u (without_mark o.like.now) text r → IsBackTextRefusal o u text r
+pub like_not : (o : WayBackOptions) (u : Measure) (text : List ℕ) (r : CallRefusal) → o.transform ≡ 1 → IsLikeTextRefusal u (without_mark o.like.now) text r → IsBackTextRefusal o u text r
 like_not o u text r e h = inr (inl (e, h))
 
-pub box_not : (o : BackOptions) (u : Measure) (text : List ℕ) (r : CallRefusal) → 2 ≤ o.transform → IsBoxRefusal u (o.count - 1) text r → IsBackTextRefusal o u text r
+pub box_not : (o : WayBackOptions) (u : Measure) (text : List ℕ) (r : CallRefusal) → 2 ≤ o.transform → IsBoxRefusal u (o.count - 1) text r → IsBackTextRefusal o u text r
 box_not o u text r e h = inr (inr (e, h))
 
-pub back_choice : (o : BackOptions) (text : List ℕ) → are_back_choices o ≡ false → IsBackRefusal o text BadChoice
+pub back_choice : (o : WayBackOptions) (text : List ℕ) → are_back_choices o ≡ false → IsBackRefusal o text BadChoice
 back_choice o text h = inl (refl, h)
 
-pub back_unit : (o : BackOptions) (text : List ℕ) → ¬ IsSize (numeral_of o.unit.now) → IsBackRefusal o text BadGrid
+pub back_unit : (o : WayBackOptions) (text : List ℕ) → ¬ IsSize (numeral_of o.unit.now) → IsBackRefusal o text BadGrid
 back_unit o text h = inr (inl (refl, h))
 
-pub back_names : (o : BackOptions) (text : List ℕ) (r : CallRefusal) → IsBackNamesRefusal o r → IsBackRefusal o text r
+pub back_names : (o : WayBackOptions) (text : List ℕ) (r : CallRefusal) → IsBackNamesRefusal o r → IsBackRefusal o text r
 back_names o text r h = inr (inr (inl h))
 
-pub back_not : (o : BackOptions) (text : List ℕ) (u : Measure) → u ≡ unit_of o → (r : CallRefusal) → IsBackTextRefusal o u (without_mark text) r → IsBackRefusal o text r
+pub back_not : (o : WayBackOptions) (text : List ℕ) (u : Measure) → u ≡ unit_of o → (r : CallRefusal) → IsBackTextRefusal o u (without_mark text) r → IsBackRefusal o text r
 back_not o text u e r h = inr (inr (inr (subst (λ x. IsBackTextRefusal o x (without_mark text) r) e h)))
 
-pub back_made : (o : BackOptions) (text t : List ℕ) (u : Measure) (rules : BackRules) → u ≡ unit_of o → IsSize (numeral_of o.unit.now) → AreBackRules o rules → IsBackText o u rules (without_mark text) t → IsBackAnswer o text t
+pub back_made : (o : WayBackOptions) (text t : List ℕ) (u : Measure) (rules : BackRules) → u ≡ unit_of o → IsSize (numeral_of o.unit.now) → AreBackRules o rules → IsBackText o u rules (without_mark text) t → IsBackAnswer o text t
 back_made o text t u rules e size are made = record { unit = size; rules = rules; are = are; made = subst (λ x. IsBackText o x rules (without_mark text) t) e made }

@@ -21,7 +21,7 @@ use Rattle.topo_io.specs.Means.{MeansTopology}
 use Rattle.noshinka.specs.BackOptions.{AreBackRules, IsBackNamesRefusal, are_back_choices}
 use Rattle.noshinka.specs.RoundOptions.{IsSize, numeral_of}
 use Rattle.noshinka.specs.Why.{IsTextRefusal}
-use Rattle.noshinka.specs.declared.back_options.BackOptions.{BackOptions}
+use Rattle.noshinka.specs.declared.back_options.WayBackOptions.{WayBackOptions}
 use Rattle.noshinka.specs.declared.refusal.CallRefusal.{CallRefusal}
 use Rattle.noshinka.specs.declared.refusal.CallRefusal.TheVariants.{BadChoice, BadGrid, OutOfMemory, Text}
 
@@ -69,17 +69,17 @@ abbrev pub IsOfBox : Measure → ℕ → TopologyParts → DecimalTransformParts
 IsOfBox u steps t d = IsBoxTransform u steps (corners_or_zero t.bbox) × (d ≡ box_transform u steps t.bbox)
 
 -- the one that the options ask for
-abbrev pub IsBackText : BackOptions → Measure → BackRules → List ℕ → List ℕ → Type 0
+abbrev pub IsBackText : WayBackOptions → Measure → BackRules → List ℕ → List ℕ → Type 0
 IsBackText o u rules text t =
     ((o.transform ≡ 0) × IsOwnText u rules text t)
     ⊎ (((o.transform ≡ 1) × IsTextOn (IsLike u (without_mark o.like.now)) rules text t) ⊎ ((2 ≤ o.transform) × IsTextOn (IsOfBox u (o.count - 1)) rules text t))
 
 -- what an absolute 1 is worth
-abbrev pub unit_of : BackOptions → Measure
+abbrev pub unit_of : WayBackOptions → Measure
 unit_of o = measure_of (numeral_of o.unit.now)
 
 -- the text of the topology of a text in the unit of the map, by the rules that the options stand for
-pub record IsBackAnswer (o : BackOptions) (text t : List ℕ) : Type 0 where
+pub record IsBackAnswer (o : WayBackOptions) (text t : List ℕ) : Type 0 where
   pub unit : IsSize (numeral_of o.unit.now)
   pub rules : BackRules
   pub are : AreBackRules o rules
@@ -102,13 +102,13 @@ abbrev pub IsBoxRefusal : Measure → ℕ → List ℕ → CallRefusal → Type 
 IsBoxRefusal u steps text r = IsOwnRefusal u text r ⊎ ((t : TopologyParts) × (MeansTopology text t × ((r ≡ BadGrid) × (¬ IsBoxTransform u steps (corners_or_zero t.bbox)))))
 
 -- why there is no text as the options ask for it
-abbrev pub IsBackTextRefusal : BackOptions → Measure → List ℕ → CallRefusal → Type 0
+abbrev pub IsBackTextRefusal : WayBackOptions → Measure → List ℕ → CallRefusal → Type 0
 IsBackTextRefusal o u text r =
     ((o.transform ≡ 0) × IsOwnRefusal u text r)
     ⊎ (((o.transform ≡ 1) × IsLikeTextRefusal u (without_mark o.like.now) text r) ⊎ ((2 ≤ o.transform) × IsBoxRefusal u (o.count - 1) text r))
 
 -- first the options, then the texts
-abbrev pub IsBackRefusal : BackOptions → List ℕ → CallRefusal → Type 0
+abbrev pub IsBackRefusal : WayBackOptions → List ℕ → CallRefusal → Type 0
 IsBackRefusal o text r =
     ((r ≡ BadChoice) × (are_back_choices o ≡ false))
     ⊎ (((r ≡ BadGrid) × (¬ IsSize (numeral_of o.unit.now))) ⊎ (IsBackNamesRefusal o r ⊎ IsBackTextRefusal o (unit_of o) (without_mark text) r))

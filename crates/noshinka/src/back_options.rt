@@ -14,7 +14,7 @@ use std::alloc::Global;
 /// The options of `noshinka_back`. `c/noshinka.h` says what each means.
 #[repr(C)]
 #[derive(Drop)]
-pub struct BackOptions<'a> {
+pub struct WayBackOptions<'a> {
     pub size: usize,
     pub unit: &'a [u8],
     pub like: &'a [u8],
@@ -27,17 +27,17 @@ pub struct BackOptions<'a> {
 }
 
 /// The bytes of the options.
-const SIZE: usize = size_of::<BackOptions<'static>>();
+const SIZE: usize = size_of::<WayBackOptions<'static>>();
 
 /// Whether there are so many numbers along each axis as may be, where a transform is of them.
-fn is_counted(options: &BackOptions<'_>) -> bool
+fn is_counted(options: &WayBackOptions<'_>) -> bool
     ensures { result ≡ is_counted options.now }
 {
     options.transform < 2 || (2 <= options.count && options.count <= GREATEST_GRID_NUMBER as u64)
 }
 
 /// Whether the options have the size of these, and each number stands for a choice.
-pub(crate) fn are_back_choices(options: &BackOptions<'_>) -> bool
+pub(crate) fn are_back_choices(options: &WayBackOptions<'_>) -> bool
     ensures { result ≡ are_back_choices options.now }
 {
     options.size == SIZE
@@ -49,7 +49,7 @@ pub(crate) fn are_back_choices(options: &BackOptions<'_>) -> bool
 }
 
 /// The properties that are named, where that is asked for.
-fn properties_named<'a>(options: &BackOptions<'a>) -> &'a [&'a [u8]]
+fn properties_named<'a>(options: &WayBackOptions<'a>) -> &'a [&'a [u8]]
     ensures { map (λ p. p.now) result.now ≡ properties_of options.now }
 {
     if options.numbers == 2 {
@@ -83,7 +83,7 @@ pub(crate) struct BackNames<'a> {
 #[tactic(auto, using(crate::proofs::Backs::names_property, crate::proofs::Backs::names_scale))]
 pub(crate) fn back_names_of<'a>(
     alloc: Global,
-    options: &BackOptions<'a>,
+    options: &WayBackOptions<'a>,
 ) -> Result<BackNames<'a>, CallRefusal>
     ensures names { IfOk result (AreBackNames options.now) }
     ensures bad { IfErr result (IsBackNamesRefusal options.now) }
@@ -106,7 +106,7 @@ fn numbers_of<'r>(number: u32, names: &'r [&'r str]) -> NumbersBack<'r>
 
 /// The rules that options stand for.
 pub(crate) fn back_rules_of<'r>(
-    options: &BackOptions<'_>,
+    options: &WayBackOptions<'_>,
     names: &'r BackNames<'_>,
 ) -> BackRules<'r>
     requires chosen { are_back_choices options.now ≡ true }

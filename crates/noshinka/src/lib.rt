@@ -39,7 +39,7 @@ mod rules;
 mod topologies;
 mod way_back;
 
-pub use back_options::BackOptions;
+pub use back_options::WayBackOptions;
 pub use borrowed::{GridNumbers, Source};
 pub use differing::DiffOptions;
 use differing::diff;
@@ -209,7 +209,7 @@ pub extern "C" fn noshinka_edit(
 #[unsafe(no_mangle)]
 pub extern "C" fn noshinka_back(
     alloc: Global,
-    options: &BackOptions<'_>,
+    options: &WayBackOptions<'_>,
     text: &[u8],
     room: &mut [u8],
 ) -> Outcome

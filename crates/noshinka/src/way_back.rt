@@ -11,7 +11,7 @@ ghost use Rattle.rounded_maps.specs.Sequences.{without_mark};
 ghost use Rattle.std.specs.Prelude.{◌≡◌, ◌≤◌, [], ◌∷◌, IfErr, IfNone, IfOk, IfSome, true};
 ghost use Rattle.topo_io.specs.Means.{MeansTopology};
 
-use crate::back_options::{BackOptions, are_back_choices, back_names_of, back_rules_of};
+use crate::back_options::{WayBackOptions, are_back_choices, back_names_of, back_rules_of};
 use crate::refusal::CallRefusal;
 use crate::rules::numeral_of;
 use crate::topologies::topology_of;
@@ -106,7 +106,7 @@ fn own_text(
 #[tactic(auto, using(crate::proofs::Backs::like_made, crate::proofs::Backs::like_refused, crate::proofs::Backs::like_text, crate::proofs::Backs::like_decimal))]
 fn like_text(
     alloc: Global,
-    options: &BackOptions<'_>,
+    options: &WayBackOptions<'_>,
     unit: &DecimalStep,
     rules: &BackRules<'_>,
     text: &[u8],
@@ -141,7 +141,7 @@ fn box_text(
 #[tactic(auto, using(crate::proofs::Backs::some_count, crate::proofs::Backs::some_steps, crate::proofs::Backs::own_asked, crate::proofs::Backs::like_asked, crate::proofs::Backs::box_asked, crate::proofs::Backs::own_not, crate::proofs::Backs::like_not, crate::proofs::Backs::box_not))]
 fn back_text(
     alloc: Global,
-    options: &BackOptions<'_>,
+    options: &WayBackOptions<'_>,
     unit: &DecimalStep,
     rules: &BackRules<'_>,
     text: &[u8],
@@ -170,7 +170,7 @@ fn unit_of(unit: &[u8]) -> Option<DecimalStep>
 #[tactic(auto, using(crate::proofs::Backs::back_choice, crate::proofs::Backs::back_unit, crate::proofs::Backs::back_names, crate::proofs::Backs::back_not, crate::proofs::Backs::back_made))]
 pub(crate) fn back(
     alloc: Global,
-    options: &BackOptions<'_>,
+    options: &WayBackOptions<'_>,
     text: &[u8],
 ) -> Result<Vec<u8>, CallRefusal>
     ensures made { IfOk result (λ t. IsBackAnswer options.now text.now t.items) }

@@ -28,7 +28,7 @@ pub struct QualityTests {
 
 /// A layer's name, the numbers of its features without an id, and of those whose id occurs more than once.
 #[derive(Drop)]
-struct LayerIds<'a> {
+struct IdLists<'a> {
     name: &'a Spelled,
     missing: Vec<usize>,
     repeated: Vec<usize>,
@@ -36,12 +36,12 @@ struct LayerIds<'a> {
 
 /// The lists of a layer.
 #[derive(Clone, Copy)]
-struct LayerObjects;
+struct ListObjects;
 
-impl<'a> Notation<LayerIds<'a>> for LayerObjects {
+impl<'a> Notation<IdLists<'a>> for ListObjects {
     ghost text = { λ _ l. layer_lists_text (layer_lists l) };
 
-    fn write_value<W: Sink>(&self, value: &LayerIds<'a>, sink: &mut W) -> Result<(), WriteFault> {
+    fn write_value<W: Sink>(&self, value: &IdLists<'a>, sink: &mut W) -> Result<(), WriteFault> {
         let name = Then(Text(b"{\"layer\":"), Text(value.name.spelling().as_bytes()));
         let missing = Then(
             Text(b",\"missing\":"),
@@ -57,14 +57,14 @@ impl<'a> Notation<LayerIds<'a>> for LayerObjects {
 
 /// The lists of layers, or null.
 #[derive(Clone, Copy)]
-struct ListsOrNull<'a>(&'a Option<Vec<LayerIds<'a>>>);
+struct ListsOrNull<'a>(&'a Option<Vec<IdLists<'a>>>);
 
 impl<'a> Written for ListsOrNull<'a> {
     ghost text = { λ l. lists_text (lists_found l.0.now) };
 
     fn write<W: Sink>(&self, sink: &mut W) -> Result<(), WriteFault> {
         match self.0 {
-            Some(lists) => Listed(lists.as_slice(), &LayerObjects).write(sink),
+            Some(lists) => Listed(lists.as_slice(), &ListObjects).write(sink),
             None => Text(b"null").write(sink),
         }
     }
@@ -137,12 +137,12 @@ impl Written for Verdict {
 }
 
 /// The lists of a layer.
-fn lists_of_layer(alloc: Global, layer: &Layer) -> Result<LayerIds<'_>, OutOfMemory>
+fn lists_of_layer(alloc: Global, layer: &Layer) -> Result<IdLists<'_>, OutOfMemory>
     ensures { IfOk result (λ l. layer_lists l ≡ lists_of layer.now) }
 {
     let missing = without_id(alloc, layer.geometries())?;
     let repeated = repeated_ids(alloc, layer.geometries())?;
-    Ok(LayerIds {
+    Ok(IdLists {
         name: layer.name(),
         missing,
         repeated,
@@ -150,7 +150,7 @@ fn lists_of_layer(alloc: Global, layer: &Layer) -> Result<LayerIds<'_>, OutOfMem
 }
 
 /// The lists of layers.
-fn lists_of_layers(alloc: Global, layers: &[Layer]) -> Result<Vec<LayerIds<'_>>, OutOfMemory>
+fn lists_of_layers(alloc: Global, layers: &[Layer]) -> Result<Vec<IdLists<'_>>, OutOfMemory>
     ensures { IfOk result (λ v. map layer_lists v.items ≡ map lists_of layers.now) }
 {
     let mut lists = Vec::with_capacity(alloc, layers.len())?;
@@ -165,7 +165,7 @@ fn lists_asked(
     alloc: Global,
     topology: &Topology,
     is_asked: bool,
-) -> Result<Option<Vec<LayerIds<'_>>>, OutOfMemory>
+) -> Result<Option<Vec<IdLists<'_>>>, OutOfMemory>
     ensures { IfOk result (λ l. lists_found l ≡ lists_if is_asked topology.now) }
 {
     if is_asked {
@@ -192,7 +192,7 @@ fn near_asked(
 /// Writes what was found.
 fn write_found(
     is_canonical: bool,
-    lists: &Option<Vec<LayerIds<'_>>>,
+    lists: &Option<Vec<IdLists<'_>>>,
     grid: &Grid,
     near: &Option<NearVertices>,
     kept: &mut Kept,
