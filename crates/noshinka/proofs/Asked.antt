@@ -1,5 +1,5 @@
 -- Refusals and answers of the parts of a question, as those of the question.
-use Rattle.std.proofs.Common.{◌≡◌, ◌≤◌, ◌↔◌, ◌⊎◌, ◌&&◌, ℕ, Bool, zero, suc, List, Option, Result, Some, Err, ap, arith, if◌then◌else◌, inl, inr, ne_eqb, refl, subst, sym, false, true, nat_eq}
+use Rattle.std.proofs.Common.{◌≡◌, ◌≤◌, ◌↔◌, ◌&&◌, ℕ, Bool, zero, suc, List, Option, Result, Some, Err, ap, arith, if◌then◌else◌, inl, inr, ne_eqb, refl, subst, sym, false, true, nat_eq}
 use Rattle.query.specs.Mesh.{IsMissing}
 use Rattle.query.specs.declared.edges.Edges.{Edges}
 use Rattle.query.specs.declared.fault.QueryFault.{QueryFault}

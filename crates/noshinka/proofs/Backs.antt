@@ -1,5 +1,5 @@
 -- What noshinka_back answers, and why it answers nothing.
-use Rattle.std.proofs.Common.{◌≡◌, ◌∙◌, ◌<◌, ◌≤◌, ◌-◌, ◌^◌, ◌⊎◌, ◌||◌, ◌&&◌, ◌∷◌, [], ℕ, Bool, true, false, List, Result, Err, Some, ap, arith, get_or, inl, inr, length, map, nat_le, nat_lt, refl, subst, sym}
+use Rattle.std.proofs.Common.{◌≡◌, ◌∙◌, ◌<◌, ◌≤◌, ◌-◌, ◌^◌, ◌⊎◌, ◌||◌, ◌&&◌, ◌∷◌, [], ℕ, Bool, true, false, List, Result, Err, Some, ap, arith, get_or, inl, inr, length, map, nat_le, nat_lt, refl, subst}
 use Rattle.std.proofs.lemmas.Bool.{and_parts, leb-true, ltb-true}
 use Rattle.std.proofs.lemmas.Option.{slice_get-map, slice_get-get_or}
 use Rattle.std.specs.Borrow.{Bor}
@@ -13,7 +13,7 @@ use Rattle.decimals.specs.declared.topology.fault.DecimalFault.{DecimalFault}
 use Rattle.decimals.specs.declared.topology.fault.DecimalFault.TheVariants as decimal
 use Rattle.decimals.specs.declared.topology.rules.BackRules.{BackRules}
 use Rattle.decimals.specs.declared.topology.transform_fault.TransformFault.{TransformFault}
-use Rattle.decimals.specs.declared.topology.transform_fault.TransformFault.TheVariants as transform
+use Rattle.decimals.specs.declared.topology.transform_fault.TransformFault.TheVariants as faulty
 use Rattle.faults.specs.Fault.{IsWant, Lifted, pair_of, prefixed}
 use Rattle.faults.specs.Path.{Turn}
 use Rattle.faults.specs.declared.fault.Fault.{Fault}
@@ -22,7 +22,7 @@ use Rattle.numerals.specs.Numeral.{Measure}
 use Rattle.rounded_maps.specs.Sequences.{without_mark}
 use Rattle.topo.specs.Parts.{TopologyParts}
 use Rattle.topo_io.specs.Means.{MeansTopology}
-use Rattle.noshinka.specs.BackOptions.{AreBackRules, IsBackNamesRefusal, IsPropertyRefusal, are_back_choices, is_counted, properties_of}
+use Rattle.noshinka.specs.BackOptions.{AreBackRules, IsBackNamesRefusal, IsPropertyRefusal, are_back_choices, properties_of}
 use Rattle.noshinka.specs.RoundOptions.{IsSize, numeral_of}
 use Rattle.noshinka.specs.Rounding.{IsScaleRefusal}
 use Rattle.noshinka.specs.WayBack.{IsBackAnswer, IsBackRefusal, IsBackText, IsBackTextRefusal, IsBoxRefusal, IsLike, IsLikeRefusal, IsLikeTextRefusal, IsOfBox, IsOwnRefusal, IsOwnText, IsTextOn, fault_at, like_fault, of_decimal, unit_of}
@@ -76,7 +76,7 @@ pub like_memory : (u : Measure) (like : List ℕ) → IsLikeRefusal u like OutOf
 like_memory u like = inl refl
 
 -- why a text gives no transform, as a refusal
-pub like_refusal : (u : Measure) (l like : List ℕ) → l ≡ like → (e : TransformFault) → ((e ≡ transform.OutOfMemory → ⊥) → IsTransformFault u (text_numerals l) e) → (f : Fault) → ((IsWant f → ⊥) → pair_of f ≡ like_fault e) → (r : CallRefusal) →
+pub like_refusal : (u : Measure) (l like : List ℕ) → l ≡ like → (e : TransformFault) → ((e ≡ faulty.OutOfMemory → ⊥) → IsTransformFault u (text_numerals l) e) → (f : Fault) → ((IsWant f → ⊥) → pair_of f ≡ like_fault e) → (r : CallRefusal) →
     IsFaultAt 1 f r → IsLikeRefusal u like r
 like_refusal u l like same e why f is (Text i g) (at, (one, some)) =
     let pair = is some in

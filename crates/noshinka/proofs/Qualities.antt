@@ -1,5 +1,5 @@
 -- What tests find, and why they find nothing.
-use Rattle.std.proofs.Common.{◌≡◌, ◌↔◌, ◌∙◌, ℕ, Bool, true, false, IsTrue, List, [], ap, inl, inr, refl, subst, sym}
+use Rattle.std.proofs.Common.{◌≡◌, ◌↔◌, ◌∙◌, ℕ, Bool, true, false, IsTrue, List, ap, inl, inr, refl, subst, sym}
 use Rattle.grid.specs.Place.{Transform}
 use Rattle.report_texts.specs.QualityText.{IsQualityText}
 use Rattle.report_texts.specs.declared.quality_text.QualityTests.{QualityTests}

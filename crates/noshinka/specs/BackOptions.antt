@@ -1,5 +1,5 @@
 -- What the options of the way back stand for.
-use Rattle.std.specs.Prelude.{◌≡◌, ◌≤◌, ◌⊎◌, ◌&&◌, ◌||◌, ◌^◌, ℕ, Bool, true, List, [], map, nat_eq, nat_le, nat_lt, slice_get, IsUtf8, Some, if◌then◌else◌}
+use Rattle.std.specs.Prelude.{◌≡◌, ◌≤◌, ◌⊎◌, ◌&&◌, ◌||◌, ◌^◌, ℕ, Bool, true, List, [], map, nat_eq, nat_le, nat_lt, if◌then◌else◌}
 use Rattle.decimals.specs.declared.topology.rules.BackRules.{BackRules}
 use Rattle.decimals.specs.declared.topology.rules.NumbersBack.{NumbersBack}
 use Rattle.decimals.specs.declared.topology.rules.NumbersBack.TheVariants as numbers

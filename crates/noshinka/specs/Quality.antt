@@ -1,5 +1,5 @@
 -- What noshinka_quality answers, and why it answers nothing.
-use Rattle.std.specs.Prelude.{◌≡◌, ◌⊎◌, ◌&&◌, ℕ, Bool, true, false, List, None, Some, nat_eq, nat_le, nat_lt, if◌then◌else◌}
+use Rattle.std.specs.Prelude.{◌≡◌, ◌⊎◌, ◌&&◌, ℕ, Bool, true, false, List, None, Option, Some, nat_eq, nat_le, nat_lt, if◌then◌else◌}
 use Rattle.report_texts.specs.QualityText.{IsQualityText}
 use Rattle.report_texts.specs.declared.quality_text.QualityTests.{QualityTests}
 use Rattle.topo.specs.Parts.{TopologyParts}
@@ -15,9 +15,13 @@ use Rattle.noshinka.specs.declared.refusal.CallRefusal.TheVariants.{BadChoice, O
 abbrev pub are_quality_choices : QualityOptions → Bool
 are_quality_choices o = (nat_eq o.size 24 && nat_lt o.ids 2) && nat_le o.near 100
 
+-- how many steps vertices are apart at most, where that is asked
+abbrev pub steps_of : ℕ → Option ℕ
+steps_of n = if nat_eq n 0 then None else Some n
+
 -- what the options ask for
 abbrev pub tests_of : QualityOptions → QualityTests
-tests_of o = record { ids = nat_eq o.ids 1; near = if nat_eq o.near 0 then None else Some o.near; listed = o.listed }
+tests_of o = record { ids = nat_eq o.ids 1; near = steps_of o.near; listed = o.listed }
 
 -- the options are choices, the text is accepted, and t says whether it is canonical, and what the tests find in its topology
 pub record IsQualityAnswer (o : QualityOptions) (text t : List ℕ) : Type 0 where

@@ -1,5 +1,5 @@
 -- What noshinka_round answers, and why it answers nothing.
-use Rattle.std.specs.Prelude.{◌≡◌, ◌⊎◌, ℕ, Bool, true, false, List, [], ◌∷◌, ◌++◌, map, nat_eq, option_map, pos, slice_get, IsUtf8, Some}
+use Rattle.std.specs.Prelude.{◌≡◌, ◌⊎◌, ℕ, Bool, true, false, List, ◌++◌, map, nat_eq, option_map, pos, slice_get, IsUtf8, Some}
 use Rattle.numerals.specs.Numeral.{measure_of}
 use Rattle.rounded_maps.specs.Built.{AreMaps, IsBuilt, IsReport}
 use Rattle.rounded_maps.specs.Files.{File, file_of}

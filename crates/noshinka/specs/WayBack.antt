@@ -8,12 +8,12 @@ use Rattle.decimals.specs.declared.topology.fault.DecimalFault.{DecimalFault}
 use Rattle.decimals.specs.declared.topology.fault.DecimalFault.TheVariants as decimal
 use Rattle.decimals.specs.declared.topology.rules.BackRules.{BackRules}
 use Rattle.decimals.specs.declared.topology.transform_fault.TransformFault.{TransformFault}
-use Rattle.decimals.specs.declared.topology.transform_fault.TransformFault.TheVariants as transform
+use Rattle.decimals.specs.declared.topology.transform_fault.TransformFault.TheVariants as faulty
 use Rattle.faults.specs.Fault.{Pair, pair_of}
 use Rattle.faults.specs.Path.{Turn, name}
 use Rattle.faults.specs.declared.fault.Fault.{Fault}
 use Rattle.faults.specs.declared.fault.FaultKind.{FaultKind}
-use Rattle.faults.specs.declared.fault.FaultKind.TheVariants as kind
+use Rattle.faults.specs.declared.fault.FaultKind.TheVariants as kinds
 use Rattle.numerals.specs.Numeral.{Measure, measure_of}
 use Rattle.rounded_maps.specs.Sequences.{without_mark}
 use Rattle.topo.specs.Parts.{TopologyParts}
@@ -31,13 +31,13 @@ fault_at path k = record { path = path; kind = k }
 
 -- why a text gives no transform, as a fault of it
 abbrev pub like_fault : TransformFault → Pair
-like_fault transform.NotJson = fault_at [] kind.NotJson
-like_fault transform.NotTopology = fault_at (name (codes "type") ∷ []) kind.UnknownType
-like_fault transform.NoTransform = fault_at (name (codes "transform") ∷ []) kind.NoTransform
-like_fault transform.NotTwoNumbers = fault_at (name (codes "transform") ∷ []) kind.NotTwo
-like_fault transform.ZeroScale = fault_at (name (codes "transform") ∷ []) kind.OutOfRange
-like_fault transform.TooManyDigits = fault_at (name (codes "transform") ∷ []) kind.OutOfRange
-like_fault transform.OutOfMemory = fault_at [] kind.OutOfMemory
+like_fault faulty.NotJson = fault_at [] kinds.NotJson
+like_fault faulty.NotTopology = fault_at (name (codes "type") ∷ []) kinds.UnknownType
+like_fault faulty.NoTransform = fault_at (name (codes "transform") ∷ []) kinds.NoTransform
+like_fault faulty.NotTwoNumbers = fault_at (name (codes "transform") ∷ []) kinds.NotTwo
+like_fault faulty.ZeroScale = fault_at (name (codes "transform") ∷ []) kinds.OutOfRange
+like_fault faulty.TooManyDigits = fault_at (name (codes "transform") ∷ []) kinds.OutOfRange
+like_fault faulty.OutOfMemory = fault_at [] kinds.OutOfMemory
 
 -- the fault of a text in the unit of the map, as a refusal: the unit has too many digits
 abbrev pub of_decimal : DecimalFault → CallRefusal

@@ -1,7 +1,7 @@
 //! What tests of the quality of a borrowed topology find.
 ghost use Rattle.noshinka.specs.Ends.{Says};
 ghost use Rattle.noshinka.specs.Answers.{IsCanonical, IsNotCanonical};
-ghost use Rattle.noshinka.specs.Quality.{IsQualityAnswer, IsQualityRefusal, are_quality_choices, tests_of};
+ghost use Rattle.noshinka.specs.Quality.{IsQualityAnswer, IsQualityRefusal, are_quality_choices, steps_of, tests_of};
 ghost use Rattle.report_texts.specs.QualityText.{IsQualityText};
 ghost use Rattle.std.specs.Prelude.{◌≡◌, IfErr, IfOk};
 ghost use Rattle.topo_io.specs.Means.{MeansTopology};
@@ -37,17 +37,23 @@ fn are_quality_choices(options: &QualityOptions) -> bool
     options.size == SIZE && options.ids < 2 && options.near <= MOST_STEPS
 }
 
+/// How many steps vertices are apart at most, where that is asked.
+fn steps_of(number: u32) -> Option<u32>
+    ensures { result ≡ steps_of number }
+{
+    match number {
+        0 => None,
+        _ => Some(number),
+    }
+}
+
 /// What the options ask for.
 fn tests_of(options: &QualityOptions) -> QualityTests
     ensures { result ≡ tests_of options.now }
 {
     QualityTests {
         ids: options.ids == 1,
-        near: if options.near == 0 {
-            None
-        } else {
-            Some(options.near)
-        },
+        near: steps_of(options.near),
         listed: options.listed,
     }
 }

@@ -12,7 +12,7 @@ ghost use Rattle.shapes.specs.Sets as set;
 ghost use Rattle.sinks.specs.Writes.{TookAll, TookPart};
 ghost use Rattle.std.specs.FinMap as layers;
 ghost use Rattle.std.specs.Option.{option_map};
-ghost use Rattle.std.specs.Prelude.{◌≡◌, ◌↔◌, ◌≤◌, Err, IfErr, IfOk, IsTrue, OnErr, OnOk, Some, None, map, nat_eq};
+ghost use Rattle.std.specs.Prelude.{◌≡◌, ◌↔◌, ◌≤◌, Err, IfErr, IfOk, IsTrue, OnErr, OnOk, Some, None, map};
 ghost use Rattle.topo.specs.ItsMap.{ForItsMap};
 
 use crate::borrowed::name_of;

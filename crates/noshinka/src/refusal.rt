@@ -1,6 +1,6 @@
 //! Why a call gives no answer, and how it says so.
 ghost use Rattle.sinks.specs.PathText.PathText.{path_text};
-ghost use Rattle.faults.specs.Fault.{IsWant, number_of, turn_of};
+ghost use Rattle.faults.specs.Fault.{number_of, turn_of};
 ghost use Rattle.noshinka.specs.Ends.{IsFaultOutcome, IsRefused};
 ghost use Rattle.noshinka.specs.Why.{IsFaultAt, of_build};
 ghost use Rattle.noshinka.specs.declared.refusal.CallRefusal.TheVariants as refusal;

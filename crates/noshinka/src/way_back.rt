@@ -163,7 +163,8 @@ fn unit_of(unit: &[u8]) -> Option<DecimalStep>
     ensures size { IfSome result (λ _. IsSize (numeral_of unit.now)) }
     ensures none { IfNone result (¬ IsSize (numeral_of unit.now)) }
 {
-    DecimalStep::parse(numeral_of(unit))
+    let unit = DecimalStep::parse(numeral_of(unit))?;
+    Some(unit)
 }
 
 /// What `togrid --back` prints of a topology's text, as the options say.

@@ -1,9 +1,13 @@
 -- Texts about quality.
-use Rattle.std.proofs.Common.{◌≡◌, ◌∙◌, ◌++◌, ◌∷◌, [], List, ap, codes, map, refl}
+use Rattle.std.proofs.Common.{◌≡◌, Bool, Option, ◌++◌, ◌∷◌, [], List, ap, codes, map, refl}
+use Rattle.compare.specs.declared.quality.near.NearVertices.{NearVertices}
+use Rattle.grid.specs.Place.{Transform}
 use Rattle.sinks.specs.Texts.{after_commas, bracketed, joined, list_text}
 use Rattle.report_texts.specs.QualityParts.{layer_lists}
-use Rattle.report_texts.specs.QualityText.{layer_lists_text}
+use Rattle.report_texts.specs.QualityText.{AreNearIf, IsQualityText, LayerLists, found_text, layer_lists_text, lists_if}
 use Rattle.report_texts.specs.declared.quality_text.IdLists.{IdLists}
+use Rattle.report_texts.specs.declared.quality_text.QualityTests.{QualityTests}
+use Rattle.topo.specs.Parts.{TopologyParts}
 
 after_map : (ls : List IdLists) → after_commas (λ l. layer_lists_text (layer_lists l)) ls ≡ after_commas layer_lists_text (map layer_lists ls)
 after_map [] = refl
@@ -16,3 +20,8 @@ joined_map (l ∷ ls) = ap (λ t. layer_lists_text (layer_lists l) ++ t) (after_
 -- the lists of layers, of which these are the parts
 pub lists_are : (ls : List IdLists) → list_text (λ l. layer_lists_text (layer_lists l)) ls ≡ list_text layer_lists_text (map layer_lists ls)
 lists_are ls = ap bracketed (joined_map ls)
+
+-- what was found is what is asked for
+pub found_is : (q : QualityTests) (canonical : Bool) (t : TopologyParts) (lists : Option (List LayerLists)) (g : Transform) (near : Option NearVertices) → lists ≡ lists_if q.ids t → g ≡ t.grid → AreNearIf t q.near q.listed near →
+    IsQualityText q canonical t (found_text canonical lists g near)
+found_is q canonical t lists g near e f are = record { near = near; are = are; is = λ i. found_text canonical (e i) (f i) near }

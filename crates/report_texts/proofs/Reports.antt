@@ -1,5 +1,5 @@
 -- Texts of reports.
-use Rattle.std.proofs.Common.{◌≡◌, ◌∙◌, ◌++◌, ◌∷◌, [], ℕ, List, ap, codes, map, refl}
+use Rattle.std.proofs.Common.{◌≡◌, ◌∙◌, ◌++◌, ◌∷◌, [], List, ap, codes, map, refl}
 use Rattle.rounded_maps.specs.declared.building.Rounded.{Rounded}
 use Rattle.rounded_maps.specs.declared.equal.EqualFeatures.{EqualFeatures}
 use Rattle.rounded_maps.specs.declared.files.Origin.{Origin}

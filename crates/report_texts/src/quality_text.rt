@@ -225,5 +225,6 @@ pub fn write_quality(
 {
     let lists = lists_asked(alloc, topology, tests.ids)?;
     let near = near_asked(alloc, topology, tests)?;
-    write_found(is_canonical, &lists, &topology.grid(), &near, kept)
+    write_found(is_canonical, &lists, &topology.grid(), &near, kept)?;
+    Ok(())
 }
