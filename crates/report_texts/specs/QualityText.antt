@@ -23,11 +23,19 @@ LayerLists = List ℕ × (List ℕ × List ℕ)
 abbrev pub lists_of : LayerParts → LayerLists
 lists_of l = (spelled_text l.name, (numbers_of is_missing 0 (ids_in l.geometries), numbers_of (stands_again (ids_in l.geometries)) 0 (ids_in l.geometries)))
 
--- the same as a JSON object
-abbrev pub layer_lists_text : LayerLists → List ℕ
-layer_lists_text l = (codes "{\"layer\":" ++ spelling_of l.0) ++ ((codes ",\"missing\":" ++ numbers_text l.1.0) ++ ((codes ",\"repeated\":" ++ numbers_text l.1.1) ++ codes "}"))
+-- the name of a layer as the beginning of a JSON object
+abbrev pub layer_name : List ℕ → List ℕ
+layer_name name = codes "{\"layer\":" ++ spelling_of name
 
--- the same of all layers of a topology, where it is asked for
+-- a list of numbers behind its name
+abbrev pub named_numbers : List ℕ → List ℕ → List ℕ
+named_numbers name ns = name ++ numbers_text ns
+
+-- a layer's name and lists as a JSON object
+abbrev pub layer_lists_text : LayerLists → List ℕ
+layer_lists_text l = layer_name l.0 ++ (named_numbers (codes ",\"missing\":") l.1.0 ++ (named_numbers (codes ",\"repeated\":") l.1.1 ++ codes "}"))
+
+-- the name and the lists of each layer of a topology, where they are asked for
 abbrev pub lists_if : Bool → TopologyParts → Option (List LayerLists)
 lists_if true t = Some (map lists_of t.layers)
 lists_if false t = None
@@ -55,9 +63,9 @@ abbrev pub canonical_text : Bool → List ℕ
 canonical_text true = codes "{\"canonical\":true,\"ids\":"
 canonical_text false = codes "{\"canonical\":false,\"ids\":"
 
--- what was found, as a JSON object
-abbrev pub found_text : Bool → Option (List LayerLists) → Transform → Option NearVertices → List ℕ
-found_text canonical lists g near = canonical_text canonical ++ (lists_text lists ++ (codes ",\"near\":" ++ (near_text g near ++ codes "}")))
+-- what was found, the lists of layers as a text, as a JSON object
+abbrev pub found_text : Bool → List ℕ → Transform → Option NearVertices → List ℕ
+found_text canonical lists g near = canonical_text canonical ++ (lists ++ (codes ",\"near\":" ++ (near_text g near ++ codes "}")))
 
 -- the pairs of vertices of a topology that are at most so many steps apart, where it is asked for
 abbrev pub AreNearIf : TopologyParts → Option ℕ → ℕ → Option NearVertices → Type 0
@@ -70,4 +78,4 @@ AreNearIf t (Some steps) listed (Some n) = AreNearOf t steps listed n
 pub record IsQualityText (q : QualityTests) (canonical : Bool) (t : TopologyParts) (u : List ℕ) : Type 0 where
   pub near : Option NearVertices
   pub are : AreNearIf t q.near q.listed near
-  pub is : u ≡ found_text canonical (lists_if q.ids t) t.grid near
+  pub is : u ≡ found_text canonical (lists_text (lists_if q.ids t)) t.grid near

@@ -1,6 +1,7 @@
 //! What tests of a map's quality found, as a JSON object.
-ghost use Rattle.report_texts.specs.QualityParts.{layer_lists, lists_found};
-ghost use Rattle.report_texts.specs.QualityText.{AreNearIf, IsQualityText, canonical_text, found_text, layer_lists_text, lists_if, lists_of, lists_text, near_pair, near_text, place_text};
+ghost use Rattle.report_texts.specs.QualityParts.{id_lists_text, layer_lists, lists_found, text_or_null};
+ghost use Rattle.report_texts.specs.QualityText.{AreNearIf, IsQualityText, canonical_text, found_text, layer_name, lists_if, lists_of, named_numbers, near_pair, near_text, place_text};
+ghost use Rattle.shapes.specs.Parts.{spelled_text};
 ghost use Rattle.sinks.specs.InMemory.{kept_seen};
 ghost use Rattle.sinks.specs.Writes.{TookAll};
 ghost use Rattle.std.specs.Prelude.{◌≡◌, ℕ, IfOk, List, OnOk, map};
@@ -34,24 +35,42 @@ struct IdLists<'a> {
     repeated: Vec<usize>,
 }
 
+/// The name of a layer.
+#[derive(Clone, Copy)]
+struct LayerName<'a>(&'a Spelled);
+
+impl<'a> Written for LayerName<'a> {
+    ghost text = { λ n. layer_name (spelled_text n.0.now) };
+
+    fn write<W: Sink>(&self, sink: &mut W) -> Result<(), WriteFault> {
+        Then(Text(b"{\"layer\":"), Text(self.0.spelling().as_bytes())).write(sink)
+    }
+}
+
+/// A list of numbers behind its name.
+#[derive(Clone, Copy)]
+struct NamedNumbers<'a>(&'a [u8], &'a Vec<usize>);
+
+impl<'a> Written for NamedNumbers<'a> {
+    ghost text = { λ n. named_numbers n.0.now n.1.now.items };
+
+    fn write<W: Sink>(&self, sink: &mut W) -> Result<(), WriteFault> {
+        Then(Text(self.0), Listed(self.1.as_slice(), &Numerals)).write(sink)
+    }
+}
+
 /// The lists of a layer.
 #[derive(Clone, Copy)]
 struct ListObjects;
 
 impl<'a> Notation<IdLists<'a>> for ListObjects {
-    ghost text = { λ _ l. layer_lists_text (layer_lists l) };
+    ghost text = { λ _ l. id_lists_text l };
 
     fn write_value<W: Sink>(&self, value: &IdLists<'a>, sink: &mut W) -> Result<(), WriteFault> {
-        let name = Then(Text(b"{\"layer\":"), Text(value.name.spelling().as_bytes()));
-        let missing = Then(
-            Text(b",\"missing\":"),
-            Listed(value.missing.as_slice(), &Numerals),
-        );
-        let repeated = Then(
-            Text(b",\"repeated\":"),
-            Listed(value.repeated.as_slice(), &Numerals),
-        );
-        Then(name, Then(missing, Then(repeated, Text(b"}")))).write(sink)
+        let missing = NamedNumbers(b",\"missing\":", &value.missing);
+        let repeated = NamedNumbers(b",\"repeated\":", &value.repeated);
+        let lists = Then(missing, Then(repeated, Text(b"}")));
+        Then(LayerName(value.name), lists).write(sink)
     }
 }
 
@@ -60,7 +79,7 @@ impl<'a> Notation<IdLists<'a>> for ListObjects {
 struct ListsOrNull<'a>(&'a Option<Vec<IdLists<'a>>>);
 
 impl<'a> Written for ListsOrNull<'a> {
-    ghost text = { λ l. lists_text (lists_found l.0.now) };
+    ghost text = { λ l. text_or_null l.0.now };
 
     fn write<W: Sink>(&self, sink: &mut W) -> Result<(), WriteFault> {
         match self.0 {
@@ -197,7 +216,7 @@ fn write_found(
     near: &Option<NearVertices>,
     kept: &mut Kept,
 ) -> Result<(), OutOfMemory>
-    ensures { OnOk result (TookAll (kept_seen kept.old) (kept_seen kept.new) (found_text is_canonical (lists_found lists.now) grid.now near.now)) }
+    ensures { OnOk result (TookAll (kept_seen kept.old) (kept_seen kept.new) (found_text is_canonical (text_or_null lists.now) grid.now near.now)) }
 {
     let rest = Then(
         Text(b",\"near\":"),
