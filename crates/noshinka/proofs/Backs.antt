@@ -53,8 +53,8 @@ property_refused ps i d below NoText h = absurd h
 property_refused ps i d below (BadPlan k) h = absurd h
 property_refused ps i d below NoLayer h = absurd h
 
-pub names_property : (o : WayBackOptions) (ps : List (Bor (List ℕ))) → map (λ p. p.now) ps ≡ properties_of o → (r : CallRefusal) → IsPropertyRefusal (map (λ p. p.now) ps) r → IsBackNamesRefusal o r
-names_property o ps e r h = inl (subst (λ l. IsPropertyRefusal l r) e h)
+pub names_property : (o : WayBackOptions) (r : CallRefusal) → IsPropertyRefusal (properties_of o) r → IsBackNamesRefusal o r
+names_property o r h = inl h
 
 pub names_scale : (o : WayBackOptions) (r : CallRefusal) → IsScaleRefusal o.scales.now r → IsBackNamesRefusal o r
 names_scale o r h = inr h

@@ -72,6 +72,17 @@ fn names_among<'a>(alloc: Global, properties: &[&'a [u8]]) -> Result<Vec<&'a str
     Ok(names)
 }
 
+/// The names of the properties that are named.
+fn property_names<'a>(
+    alloc: Global,
+    options: &WayBackOptions<'a>,
+) -> Result<Vec<&'a str>, CallRefusal>
+    ensures names { IfOk result (λ v. map (λ n. n.now) v.items ≡ properties_of options.now) }
+    ensures bad { IfErr result (IsPropertyRefusal (properties_of options.now)) }
+{
+    names_among(alloc, properties_named(options))
+}
+
 /// The names that options have.
 #[derive(Drop)]
 pub(crate) struct BackNames<'a> {
@@ -88,7 +99,7 @@ pub(crate) fn back_names_of<'a>(
     ensures names { IfOk result (AreBackNames options.now) }
     ensures bad { IfErr result (IsBackNamesRefusal options.now) }
 {
-    let properties = names_among(alloc, properties_named(options))?;
+    let properties = property_names(alloc, options)?;
     let scales = scales_of(alloc, options.scales)?;
     Ok(BackNames { properties, scales })
 }
