@@ -10,6 +10,8 @@ share, also with one value, lines over one another, a ring that visits a vertex 
 many features as an arc has positions use that arc: as this tool writes them, cut where no junction is, in another order, with
 the arc twice, with a position or a member twice, with features that tie out of their order, and with a fault in the last
 feature. Such a text means far more than it says, so a command that stitches each feature takes the square of its length.
+`diff` has newer texts, in which the arc has a vertex more, or many features are points of it; `faults` one with many faults
+in a feature with a long id.
 
 Each row is a command on a map: its instructions at the size, by valgrind, and its peak memory above what the program takes
 for nothing, and how both grow when the size doubles. A growth above 2.3 is marked by an exclamation mark and counted, and
@@ -32,6 +34,7 @@ from measuring import GRID, TOOL, Failed, build_topology, end_with, need, parser
 GREATEST = 2.3
 LEAST_MEGABYTES = 1  # of a growth below that nothing is told: it is the allocator's
 UNIT = {"scale": [1, 1], "translate": [0, 0]}
+FAULTY = "many faults of a feature with a long id"
 
 
 def feature(kind, coordinates, number=None):
@@ -137,6 +140,31 @@ def ties_out_of_order(size):
         {"type": "LineString", "arcs": [0, size - number]} for number in range(size)]}})
 
 
+def points_on(size):
+    """Features that are points of one long arc, each another one."""
+    told = [{"type": "Point", "coordinates": place, "id": number} for number, place in enumerate(zigzag(size))]
+    return topology([zigzag(size)], {"a": {"type": "GeometryCollection", "geometries": told}})
+
+
+def newer(size):
+    """Topologies whose features use one arc of as many positions, and newer ones, by their names."""
+    whole, half = zigzag(size), size // 2
+    longer = [*whole[:half], [half, 5], *whole[half:]]
+    elsewhere = [[place, 9 - line] for place, line in whole]
+    olds = on_arcs(size, [whole], [[0]])
+    return {
+        "a vertex more": (olds, on_arcs(size, [longer], [[0]])),
+        "half elsewhere": (olds, on_arcs(size, [whole, elsewhere], [[0], [1]])),
+        "points in place of it": (olds, points_on(size)),
+    }
+
+
+def faulty_feature(size):
+    """As many faults as the size in a feature whose id has ten times as many letters."""
+    told = {"type": "MultiPoint", "coordinates": [[0.5, 0]] * size, "id": "n" * 10 * size}
+    return topology([], {"a": {"type": "GeometryCollection", "geometries": [told]}})
+
+
 def repeated(positions):
     """The positions, the first, one inside and the last of them twice."""
     middle = len(positions) // 2
@@ -179,16 +207,20 @@ def write(path, value):
 
 
 def write_maps(folder, size):
-    """The files of each map of a size: its GeoJSON where it has one, and its topology."""
+    """The files of each map of a size: its GeoJSON where it has one, its topology, and a newer one where it has one."""
     told = {}
     for name, make in MAPS.items():
         source = write(os.path.join(folder, f"{name}.json"), {"type": "FeatureCollection", "features": make(size)})
         built = os.path.join(folder, f"{name}.topo.json")
         build_topology(source, built)
-        told[name] = source, built
-    told["many layers"] = None, write(os.path.join(folder, "layers.topo.json"), layers(size))
+        told[name] = source, built, None
+    told["many layers"] = None, write(os.path.join(folder, "layers.topo.json"), layers(size)), None
     for name, text in shared_arcs(size).items():
-        told[f"one arc, {name}"] = None, write(os.path.join(folder, f"{name}.topo.json"), text)
+        told[f"one arc, {name}"] = None, write(os.path.join(folder, f"{name}.topo.json"), text), None
+    for name, texts in newer(size).items():
+        files = [write(os.path.join(folder, f"{name} {place}.topo.json"), text) for place, text in enumerate(texts)]
+        told[f"one arc, {name}"] = None, *files
+    told[FAULTY] = None, write(os.path.join(folder, "faulty.topo.json"), faulty_feature(size)), None
     return told
 
 
@@ -197,8 +229,12 @@ def shares_arcs(name):
     return name.startswith("one ") or name == "equal but for ids"
 
 
-def commands(name, source, built):
+def commands(name, source, built, newer_one):
     """The commands on a map, by their names."""
+    if newer_one:
+        return {"diff": [TOOL, "diff", built, newer_one]}
+    if name == FAULTY:
+        return {"faults": [TOOL, "faults", built]}
     layer = ["--layer", "layer 000000" if name == "many layers" else "a"]
     told = {
         "check": [TOOL, "check", built], "merge": [TOOL, "merge", built], "info": [TOOL, "info", built],
@@ -264,8 +300,8 @@ def main():
         for size in (words.size, 2 * words.size):
             folder = os.path.join(top, str(size))
             os.mkdir(folder)
-            for name, (source, built) in write_maps(folder, size).items():
-                for command, run in commands(name, source, built).items():
+            for name, files in write_maps(folder, size).items():
+                for command, run in commands(name, *files).items():
                     if words.map in name and words.command in command:
                         asked.setdefault((name, command), []).append(pool.submit(measures, run, nothing))
         print("| Map | Command | Millions of instructions | Megabytes | Grow | Memory grows |\n|---|---|---|---|---|---|")

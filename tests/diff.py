@@ -4,11 +4,11 @@
     python3 tests/diff.py [--seed N] [--texts N] [--seconds N]
 
 Each pair is the topology of a random map, and that of the same map with some features changed: left out, doubled, with
-another id, other properties or another geometry, or with rings and lines that run the other way or begin elsewhere; now
-and then a layer is left out or new. The second text is given as another tool would write it. What differs is found here
-from the features alone, which are stitched by the standard, and told as `topotool diff --help` says: as lines and as a
-JSON object, with and without --key and --layer. With a limit of time it stops there. Ends with a line of counts, and with
-status 1 where a run did anything else, or almost no pair was tried.
+another id, other properties, another geometry or points of one, or with rings and lines that run the other way or begin
+elsewhere; now and then a layer is left out or new. The second text is given as another tool would write it. What differs
+is found here from the features alone, which are stitched by the standard, and told as `topotool diff --help` says: as
+lines and as a JSON object, with and without --key and --layer. With a limit of time it stops there. Ends with a line of
+counts, and with status 1 where a run did anything else, or almost no pair was tried.
 """
 
 import json
@@ -235,6 +235,12 @@ def object_of(found, property_):
 # ---- random pairs
 
 
+def positions_in(coordinates):
+    if coordinates and not isinstance(coordinates[0], list):
+        return [coordinates]
+    return [position for each in coordinates for position in positions_in(each)]
+
+
 class Changer:
     """Changes the features of GeoJSON."""
 
@@ -257,6 +263,13 @@ class Changer:
     def others(self):
         return [it["geometry"] for it in self.features if it.get("geometry")]
 
+    def points(self):
+        """Some positions of some geometry as points, if it has any."""
+        geometry = self.chance.choice([{"coordinates": []}, *self.others()])
+        positions = positions_in(geometry["coordinates"])
+        some = self.chance.sample(positions, self.chance.randint(0, len(positions)))
+        return {"type": "MultiPoint", "coordinates": some}
+
     def changed(self, feature):
         chance, geometry = self.chance, feature.get("geometry")
         kind = chance.randrange(10)
@@ -276,6 +289,8 @@ class Changer:
             return [{**feature, "geometry": self.backwards(geometry)}]
         if kind in (7, 8) and geometry and geometry["type"] in ("MultiPoint", "MultiLineString", "Polygon", "MultiPolygon"):
             return [{**feature, "geometry": {**geometry, "coordinates": geometry["coordinates"][::-1]}}]
+        if chance.random() < 0.3:
+            return [{**feature, "geometry": self.points()}]
         return [{**feature, "geometry": chance.choice([None, *self.others()])}]
 
     def all_changed(self):

@@ -63,6 +63,7 @@ MODULES = {
     "outputs::difference_text::text": "is of the command: tests/refused_memory.py",
     "outputs::fault_reports::line_columns": "is of the command: tests/refused_memory.py",
     "outputs::fault_reports::report": "is of the command: tests/refused_memory.py",
+    "outputs::fault_reports::shared_text": "is of the command: tests/refused_memory.py",
     "outputs::fault_reports::written": "is of the command: tests/refused_memory.py",
     "topo_io::reader::geometry": "has parts of topo_io::read",
     "topo_io::reader::position": "has parts of topo_io::read",

@@ -21,6 +21,7 @@ from many_runs import judged, told
 TOP = os.path.dirname(os.path.dirname(os.path.abspath(__file__)))
 LEAST_RUNS = 20
 WRONG = "wrong"
+WRITTEN = "noshinka.tmp-"  # what the name of a file begins with until it is whole
 
 
 class Task(NamedTuple):
@@ -52,17 +53,19 @@ class Tally(NamedTuple):
 
 
 class Program:
-    """A program under the library that refuses, run in a folder, with a file of it as standard input where one is named."""
+    """A program under the library that refuses, run in a folder, with a file of it as standard input where one is named and
+    there."""
 
     def __init__(self, name, library, folder, seconds):
         self.name, self.library, self.folder, self.seconds, self.given = name, library, folder, seconds, None
 
     def run(self, words, settings, folder=None):
         """Gives how a command ended, and how many bytes the library wrote to the descriptor that a setting of None names."""
-        given = f"{self.folder}/{self.given}" if self.given and folder is None else os.devnull
+        folder = folder or self.folder
+        given = f"{folder}/{self.given}" if self.given and os.path.isfile(f"{folder}/{self.given}") else os.devnull
         with tempfile.TemporaryFile() as heard, open(given, "rb") as given:
             named = {name: str(heard.fileno() if it is None else it) for name, it in settings.items()}
-            how = {"cwd": folder or self.folder, "env": {**os.environ, "LD_PRELOAD": self.library, **named}}
+            how = {"cwd": folder, "env": {**os.environ, "LD_PRELOAD": self.library, **named}}
             ran = subprocess.run([self.name, *words], stdin=given, pass_fds=[heard.fileno()], capture_output=True, **how)
             return (ran.returncode, ran.stdout, ran.stderr), heard.seek(0, os.SEEK_END)
 
@@ -75,22 +78,36 @@ class Program:
         right, count = self.asked(words)
         return [Task(words, place, on, right, count) for on in (False, True) for place in range(1, count + 2)]
 
+    def of_worker(self):
+        """A copy of the folder for this process, so that no run meets what another one writes."""
+        folder = f"{self.folder}-{os.getpid()}"
+        if not os.path.isdir(folder):
+            shutil.copytree(self.folder, folder)
+        return folder
+
     def refused(self, task):
-        """Does a task; gives it, how the command ended, and how many requests were refused."""
-        return task, *self.run(task.words, {"REFUSE_AT": task.place, "REFUSE_TOLD": None, **({"REFUSE_ON": 1} if task.on else {})})
+        """Does a task; gives it, how the command ended, how many requests were refused, and which files it left half written."""
+        settings, folder = {"REFUSE_AT": task.place, "REFUSE_TOLD": None}, self.of_worker()
+        end, refusals = self.run(task.words, {**settings, "REFUSE_ON": 1} if task.on else settings, folder)
+        left = [it for it in os.listdir(folder) if it.startswith(WRITTEN)]
+        for it in left:
+            os.remove(f"{folder}/{it}")
+        return task, end, refusals, left
 
     def judge(self, commands, kind_of):
         """Does all tasks of the commands, or those that the time is enough for. `kind_of` tells by a task and its end what
-        kind of run it was; where it is WRONG, or a request was not refused that had to be, the run is shown."""
+        kind of run it was; where it is WRONG, a request was not refused that had to be, or a file was left half written though there
+        was memory again to remove it, the run is shown."""
         tasks = [it for words in commands for it in self.tasks(words)]
         random.Random(1).shuffle(tasks)
         tally = Tally(Counter(), len(tasks), self.seconds)
-        for task, end, refusals in judged(self.refused, tasks, self.seconds):
-            kind = kind_of(task, end) if (refusals > 0) == (task.place <= task.count) else WRONG
+        for task, end, refusals, left in judged(self.refused, tasks, self.seconds):
+            is_refused = (refusals > 0) == (task.place <= task.count)
+            kind = kind_of(task, end) if is_refused and (task.on or not left) else WRONG
             tally.kinds[kind] += 1
             if kind == WRONG:
                 behind = " and all behind it" * task.on
-                print(f"{' '.join([os.path.basename(self.name), *task.words])}: with request {task.place}{behind} refused, {refusals} times: {end}")
+                print(f"{' '.join([os.path.basename(self.name), *task.words])}: with request {task.place}{behind} refused, {refusals} times: {end}, left: {left}")
         return tally
 
 
@@ -119,4 +136,5 @@ def program(variable, crate):
         if library is None:
             print("skipped: no C compiler compiles tests/refuse.c (Debian: gcc, libc6-dev); 0 runs, 0 wrong")
             sys.exit(0)
-        yield Program(name, library, folder, words.seconds)
+        os.mkdir(f"{folder}/files")
+        yield Program(name, library, f"{folder}/files", words.seconds)

@@ -13,7 +13,7 @@ again, the rows' numbers from 1 do, so that equal rows stay. Dates become texts,
 
 `build` and `round` round coordinates to whole numbers of steps, as the command togrid does: the answer counts millionths of the
 map's unit. All other calls do what topotool does; they take topologies of whole numbers, as `build` answers.
-`to_geodataframe` leads back to degrees or metres.
+`back` and `to_geodataframe` lead back to degrees or metres.
 
 Each call returns `Answer`, which is `bytes` with a method `json()`, or raises `Fault`, `Usage` or `MemoryError`. Calls may
 be made from any number of threads, and other threads run meanwhile. None may be made in the child of a fork of a process
@@ -24,14 +24,16 @@ from __future__ import annotations
 import json
 import operator
 import warnings
+from contextlib import suppress
 from decimal import Decimal, InvalidOperation
 from fractions import Fraction
-from typing import TYPE_CHECKING, Any, Dict, Iterable, Mapping, Optional, Sequence, Tuple, Union, cast
+from typing import TYPE_CHECKING, Any, Dict, Iterable, Literal, Mapping, Optional, Sequence, Tuple, Union, cast, overload
 
 from ._calls import (
-    CALLS, DONE, GEOJSON, TOPOLOGY, DiffOptions, Grid, MeshOptions, NeighborsOptions, Reading, RoundOptions, changes_lent, ended, lent,
-    options, scales_lent, sources_lent, texts_lent,
+    CALLS, DONE, GEOJSON, TOPOLOGY, BackOptions, DiffOptions, Grid, MeshOptions, NeighborsOptions, QualityOptions, Reading, RoundOptions,
+    changes_lent, ended, lent, options, scales_lent, sources_lent, texts_lent,
 )  # fmt: skip
+from ._checked import Checked, LayerIds, checked_of
 from ._errors import Fault, Usage
 from ._frames import crs_step, frame_of
 from ._report import Fixed, MapReport, Report, report_of
@@ -41,8 +43,8 @@ if TYPE_CHECKING:
     from geopandas import GeoDataFrame  # type: ignore
 
 __all__ = [
-    "Answer", "Fault", "Fixed", "Layers", "MapReport", "Report", "Rounded", "Text", "Usage", "build", "check", "diff", "edit",
-    "faults", "feature", "info", "merge", "mesh", "neighbors", "remove", "round", "to_geodataframe",
+    "Answer", "Checked", "Fault", "Fixed", "LayerIds", "Layers", "MapReport", "Report", "Rounded", "Text", "Usage", "back", "build",
+    "check", "diff", "edit", "faults", "feature", "info", "merge", "mesh", "neighbors", "remove", "round", "to_geodataframe",
 ]  # fmt: skip
 __version__ = "0.1.0"
 
@@ -51,6 +53,9 @@ Step = Union[str, int, float, Decimal]
 _EDGES = {"all": 0, "interior": 1, "exterior": 2}
 _BY_PROPERTY = 3
 _KINDS = {"add": 0, "take": 1}
+_IDS, _KEYED_IDS = 1, 2
+_NAMED = 2
+_OWN, _LIKE, _COUNT = 0, 1, 2
 _ROUND = {
     "reals": {"whole": 0, "text": 1, "refuse": 2},
     "heights": {"drop": 0, "refuse": 1},
@@ -63,6 +68,8 @@ _ROUND = {
 _MILLIONTH = "0.000001"
 _GREATEST_SIZE = 10**12  # of the digits of a step
 _POWERS = [10**it for it in range(13)]
+_GREATEST_COUNT = 2**40
+_GREATEST_NUMBER = 2**32 - 1
 _LEAST_GRID, _GREATEST_GRID = -(2**63), 2**63 - 1
 
 
@@ -78,10 +85,11 @@ def _choice(argument: str, value: str, choices: Mapping[str, int]) -> int:
     return choices[value]
 
 
-def _at_most(argument: str, value: int, most: int) -> int:
-    if not 0 <= operator.index(value) <= most:
-        raise Usage(f"bad {argument} {value}", argument)
-    return value
+def _within(argument: str, value: int, least: int, most: int, name: str = "") -> int:
+    number = operator.index(value)
+    if not least <= number <= most:
+        raise Usage(f"bad {name or argument} {value}", argument)
+    return number
 
 
 def _grid_of(grid: Sequence[int]) -> Grid:
@@ -150,7 +158,7 @@ def _rounded(format: int, layers: Layers, step: Optional[Step], asked: Mapping[s
         scope=int(asked["layer"] is not None),
         id=asked["id"],
         ids=int(asked["id"] is not None),
-        snap=_at_most("snap", asked["snap"], 10),
+        snap=_within("snap", asked["snap"], 0, 10),
         number=int(asked["number"]),
         sequences=int(True in kinds),
         renames=int(True in names),
@@ -263,6 +271,52 @@ def to_geodataframe(
     return frame_of(feature(text, layer).json()["features"], crs, Decimal(str(unit)), numbers)
 
 
+def back(
+    text: Text,
+    *,
+    unit: Optional[Step] = None,
+    like: Optional[Text] = None,
+    quantize: Optional[int] = None,
+    numbers: Union[bool, Iterable[str]] = False,
+    scales: Optional[Mapping[str, int]] = None,
+    rewind: str = "d3",
+) -> Answer:
+    """Returns a topology in the map's unit again, for other tools: what `togrid --back` prints.
+
+    The options are those of togrid, which docs/TOGRID.md explains. `unit` is the one that `build` was called with. The transform stays,
+    or is that of the topology `like`, or has `quantize` numbers along each axis. `numbers` names the properties whose decimal texts
+    become numbers; with True those of all columns of numbers do. By `scales` numbers are divided, and by `rewind` rings are turned,
+    `"rfc7946"` or `"d3"`, or not, `"keep"`. Raises `Fault` with the place 1 if `like` is refused.
+
+        >>> import noshinka
+        >>> places = noshinka.build({"places": {"type": "Point", "coordinates": [7.4386325, 46.9510827]}})
+        >>> noshinka.back(places).json()["bbox"]
+        [7.438633, 46.951083, 7.438633, 46.951083]
+    """
+    if like is not None and quantize is not None:
+        raise Usage("quantize goes without like", "quantize")
+    shown = _MILLIONTH if unit is None else str(unit)
+    wrong = f"bad unit {shown}", "unit"
+    if not _is_size(shown):
+        raise Usage(*wrong)
+    given = [given_of(it) for it in (text, like) if it is not None]
+    names = [] if isinstance(numbers, bool) else [numbers] if isinstance(numbers, str) else list(numbers)
+    made = options(
+        BackOptions,
+        **_scales(scales),
+        unit=shown,
+        like=None if like is None else given[1].text,
+        properties=texts_lent(it.encode() for it in names),
+        property_count=len(names),
+        count=0 if quantize is None else _within("quantize", quantize, 2, _GREATEST_COUNT),
+        numbers=int(numbers) if isinstance(numbers, bool) else _NAMED,
+        transform=_LIKE if like is not None else _OWN if quantize is None else _COUNT,
+        rewind=_choice("rewind", rewind, _ROUND["rewind"]),
+    )
+    size = 2 * len(given[0].text) + 1024
+    return _answer(CALLS.back, size, made, *lent(given[0].text), texts=given, reading=Reading(is_togrid=True), wrong=wrong)
+
+
 def merge(texts: Iterable[Text]) -> Answer:
     """Merges topologies: the canonical text of the union of their features, layer by layer.
 
@@ -298,10 +352,40 @@ def edit(text: Text, changes: Iterable[Tuple[str, Text]]) -> Answer:
     return _answer(CALLS.edit, size, *lent(given[0].text), lists, len(pairs), texts=given)
 
 
-def check(text: Text) -> bool:
-    """Whether a topology's text is canonical: byte for byte what `merge` of it alone returns."""
+@overload
+def check(text: Text) -> bool: ...
+@overload
+def check(text: Text, *, ids: Literal[True], near: Optional[int] = None, listed: int = 10) -> Checked: ...
+@overload
+def check(text: Text, *, ids: bool = False, near: int, listed: int = 10) -> Checked: ...
+@overload
+def check(text: Text, *, ids: bool = False, near: Optional[int] = None, listed: int = 10) -> Union[bool, Checked]: ...
+
+
+def check(text: Text, *, ids: bool = False, near: Optional[int] = None, listed: int = 10) -> Union[bool, Checked]:
+    """Whether a topology's text is canonical: byte for byte what `merge` of it alone returns.
+
+    With `ids` or `near` the answer is `Checked`, which is true if nothing is wrong. `ids` asks which features have no id, or one that
+    occurs more than once in their layer; `near`, from 1 to 100, for pairs of vertices that are at most so many grid steps apart,
+    where one feature has only the one and another only the other: borders that were drawn twice. The first of them are `listed`.
+
+        >>> import noshinka
+        >>> places = noshinka.build({"places": {"type": "MultiPoint", "coordinates": [[7.4, 46.9], [7.5, 46.9]]}})
+        >>> noshinka.check(places)
+        True
+        >>> noshinka.check(places, ids=True).ids
+        (LayerIds(layer='places', missing=(0,), repeated=()),)
+    """
     given = given_of(text)
-    return ended(CALLS.check, 1024, *lent(given.text), texts=[given])[0] == DONE
+    if not ids and near is None:
+        return ended(CALLS.check, 1024, *lent(given.text), texts=[given])[0] == DONE
+    made = options(
+        QualityOptions,
+        ids=int(ids),
+        near=0 if near is None else _within("near", near, 1, 100, "steps"),
+        listed=_within("listed", listed, 0, _GREATEST_NUMBER),
+    )
+    return checked_of(_answer(CALLS.quality, 4096, made, *lent(given.text), texts=[given]).json())
 
 
 def faults(text: Text, grid: Optional[Sequence[int]] = None) -> Answer:
@@ -351,15 +435,16 @@ def neighbors(text: Text, layer: str, ids: bool = False, by: Optional[str] = Non
     differs count. Raises `Usage` if ids are asked for and a feature has none, or if keys are and two ids are one.
     """
     given, name = given_of(text), layer.encode()
-    made = options(NeighborsOptions, property=by, kind=int(by is not None), lists=2 if keyed else int(ids))
+    lists = _KEYED_IDS if keyed else _IDS if ids else 0
+    made = options(NeighborsOptions, property=by, kind=int(by is not None), lists=lists)
     words = len(given.text) + 1024, made, *lent(given.text), *lent(name)
-    wrong = f"--ids: a feature without an id in layer {layer}", "ids"
-    answer = _answer(CALLS.neighbors, *words, texts=[given], layer=layer, wrong=wrong)
-    if keyed:
-        names = json.loads(answer, object_pairs_hook=lambda pairs: [it for it, _ in pairs])
-        if len(set(names)) < len(names):
-            raise Usage(f"--keyed: two features with one id in layer {layer}", "keyed")
-    return answer
+    if not keyed:
+        wrong = f"--ids: a feature without an id in layer {layer}", "ids"
+        return _answer(CALLS.neighbors, *words, texts=[given], layer=layer, wrong=wrong)
+    with suppress(Usage):
+        return _answer(CALLS.neighbors, *words, texts=[given], layer=layer)
+    neighbors(given.text, layer, ids=True)  # Raises if a feature has none, which comes first.
+    raise Usage(f"--keyed: two features with one id in layer {layer}", "keyed")
 
 
 def diff(

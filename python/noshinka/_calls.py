@@ -46,11 +46,12 @@ class _Outcome(ctypes.Structure):
     _fields_ = [("status", ctypes.c_uint32), ("fault", ctypes.c_uint32), ("place", ctypes.c_size_t), ("length", ctypes.c_size_t)]
 
 
-def _fields(texts: str, numbers: str, lists: Sequence[Tuple[str, Any]] = ()) -> Sequence[Tuple[str, Any]]:
-    """The members of a struct of options: texts, lists with their counts, and numbers."""
+def _fields(texts: str, numbers: str, lists: Sequence[Tuple[str, str, Any]] = (), wide: str = "") -> Sequence[Tuple[str, Any]]:
+    """The members of a struct of options: texts, lists with their counts, numbers of 64 bits, and numbers."""
     fields = [("size", ctypes.c_size_t), *((it, _Bytes) for it in texts.split())]
-    for name, kind in lists:
-        fields += [(f"{name}s", ctypes.POINTER(kind)), (f"{name}_count", ctypes.c_size_t)]
+    for name, count, kind in lists:
+        fields += [(name, ctypes.POINTER(kind)), (count, ctypes.c_size_t)]
+    fields += [(it, ctypes.c_uint64) for it in wide.split()]
     return [*fields, *((it, ctypes.c_uint32) for it in numbers.split())]
 
 
@@ -58,8 +59,18 @@ class RoundOptions(ctypes.Structure):
     _fields_ = _fields(
         "step unit layer id",
         "snap scope ids reals number unclosed heights folded collections collapsed rewind sequences renames format report",
-        [("scale", _Scale)],
+        [("scales", "scale_count", _Scale)],
     )
+
+
+class BackOptions(ctypes.Structure):
+    _fields_ = _fields(
+        "unit like", "numbers transform rewind", [("properties", "property_count", _Bytes), ("scales", "scale_count", _Scale)], "count"
+    )
+
+
+class QualityOptions(ctypes.Structure):
+    _fields_ = _fields("", "ids near listed")
 
 
 class MeshOptions(ctypes.Structure):
@@ -115,7 +126,9 @@ class _Calls:
         self.merge = call("merge", of(_Bytes), ctypes.c_size_t)
         self.remove = call("remove", *_TEXT, *_TEXT)
         self.edit = call("edit", *_TEXT, of(_Change), ctypes.c_size_t)
+        self.back = call("back", of(BackOptions), *_TEXT)
         self.check = call("check", *_TEXT)
+        self.quality = call("quality", of(QualityOptions), *_TEXT)
         self.faults = call("faults", *_TEXT, *_NUMBER, of(Grid))
         self.feature = call("feature", *_TEXT, *_TEXT)
         self.mesh = call("mesh", of(MeshOptions), *_TEXT)

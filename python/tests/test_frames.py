@@ -1,10 +1,8 @@
 """Tests with frames of geopandas; without it they are skipped. Maps that are built of frames are compared with those that the
-programs of TOGRID and TOPOTOOL, or of crates/*/out, build of the files that geopandas writes."""
+programs build of the files that geopandas writes."""
 import datetime
 import json
-import os
 import random
-import subprocess
 import tempfile
 import unittest
 import warnings
@@ -12,6 +10,8 @@ from decimal import Decimal
 from pathlib import Path
 
 import noshinka
+
+from programs import ARE_THERE, ran
 
 try:
     import geopandas
@@ -21,8 +21,6 @@ try:
 except ImportError:
     geopandas = None
 
-TOP = os.path.dirname(os.path.dirname(os.path.dirname(os.path.abspath(__file__))))
-PROGRAMS = {it: os.path.abspath(os.environ.get(it.upper(), f"{TOP}/crates/{it}/out/{it}")) for it in ("togrid", "topotool")}
 DEGREES, METRES, FEET = "EPSG:4326", "EPSG:2056", "EPSG:2263"
 SIDE = 4
 COUNTS = ("features", "positions", "moved", "heights", "reals", "closed", "collapsed", "folded", "collections", "lost")
@@ -82,10 +80,6 @@ def written(frame):
     return json.dumps(text)
 
 
-def ran(program, *words):
-    return subprocess.run([PROGRAMS[program], *words], stdin=subprocess.DEVNULL, stdout=subprocess.PIPE, check=True).stdout
-
-
 def as_list(held):
     return held if isinstance(held, list) else [held]
 
@@ -114,7 +108,7 @@ class Maps(unittest.TestCase):
             self.assertEqual(([it._asdict() for it in new.fixed], len(new.equal)), (old["fixed"], old["equal"]))
         self.assertEqual(len(came.maps), len(report["files"]))
 
-    @unittest.skipUnless(all(map(os.path.isfile, PROGRAMS.values())), "there are no programs")
+    @unittest.skipUnless(ARE_THERE, "there are no programs")
     def test_frames_give_the_bytes_of_files(self):
         seen = set()
         for title, layers, options, words in maps():
@@ -125,7 +119,7 @@ class Maps(unittest.TestCase):
                 seen.add(built)
         self.assertGreaterEqual(len(seen), 20)
 
-    @unittest.skipUnless(all(map(os.path.isfile, PROGRAMS.values())), "there are no programs")
+    @unittest.skipUnless(ARE_THERE, "there are no programs")
     def test_whole_numbers(self):
         squares = frame([box(x * 10, y * 10, x * 10 + 10, y * 10 + 10) for x in range(3) for y in range(3)], None, number=range(9))
         wests, easts = squares[:5], squares[3:]

@@ -1,7 +1,9 @@
 """Tests of the package: `python3 -m unittest discover -s python/tests`, with NOSHINKA_LIBRARY set or the wheel installed."""
 import collections
+import dataclasses
 import decimal
 import gzip
+import itertools
 import json
 import os
 import pathlib
@@ -16,6 +18,8 @@ import warnings
 
 import noshinka
 
+from programs import ARE_THERE, ran
+
 LEFT = b'{"type":"Polygon","coordinates":[[[0,0],[1,0],[1,1],[0,1],[0,0]]]}'
 RIGHT = b'{"type":"Polygon","coordinates":[[[1,0],[2,0],[2,1],[1,1],[1,0]]]}'
 SHARED_EDGE = (
@@ -24,6 +28,10 @@ SHARED_EDGE = (
     b'"transform":{"scale":[1,1],"translate":[0,0]},"type":"Topology"}'
 )
 SAME_IDS = SHARED_EDGE.replace(b'[[1,-1]]', b'[[1,-1]],"id":7').replace(b'[[2,-2]]', b'[[2,-2]],"id":7')
+SQUARE = (
+    b'{"arcs":[[[0,0],[10,0],[0,10],[-10,0],[0,-10]]],"objects":{"a":{"geometries":[{"arcs":[[0]],"id":1,"type":"Polygon"}],'
+    b'"type":"GeometryCollection"}},"transform":{"scale":[1,1],"translate":[0,0]},"type":"Topology"}'
+)
 NO_FEATURES = b'{"arcs":[],"objects":{"a":{"geometries":[],"type":"GeometryCollection"}},"transform":{"scale":[1,1],"translate":[0,0]},"type":"Topology"}'
 
 
@@ -233,6 +241,168 @@ class Rounding(unittest.TestCase):
         text = {"type": "MultiPoint", "coordinates": [[n % 9 + 1, 5] for n in range(5000)]}
         coordinates = noshinka.round(text, "1e-9", unit="1e-9").json()["features"][0]["geometry"]["coordinates"]
         self.assertEqual(coordinates[:2], [[10**9, 5 * 10**9], [2 * 10**9, 5 * 10**9]])
+
+
+class Back(unittest.TestCase):
+    NUMBERS = {"rate": "0.5", "code": "7", "area": 25, "name": "x"}
+
+    def properties(self, **options):
+        text = whole({"a": [point(1, 2, id=1, properties=self.NUMBERS), point(3, 4, id=2, properties={"rate": 1, "area": -3})]})
+        return [it["properties"] for it in noshinka.back(text, **options).json()["objects"]["a"]["geometries"]]
+
+    def test_rings_and_the_text(self):
+        wanted = (
+            b'{"type":"Topology","transform":{"scale":[0.000001,0.000001],"translate":[0,0]},"bbox":[0,0,0.00001,0.00001],"objects":{"a":{"type":'
+            b'"GeometryCollection","geometries":[{"id":1,"type":"Polygon","arcs":[[%d]]}]}},"arcs":[[[0,0],[0,10],[10,0],[0,-10],[-10,0]]]}'
+        )
+        self.assertEqual(noshinka.back(SQUARE), wanted % 0)
+        for rewind, arc in (("d3", 0), ("rfc7946", -1), ("keep", -1)):
+            self.assertEqual(noshinka.back(json.loads(SQUARE), rewind=rewind), wanted % arc)
+
+    def test_units(self):
+        text = whole({"a": point(15, 0)}, (10, 10, 5, -20))
+        for unit in ("0.25", 0.25, decimal.Decimal("0.25"), "25e-2"):
+            answer = noshinka.back(text, unit=unit).json()
+            self.assertEqual((answer["transform"], answer["bbox"]), ({"scale": [2.5, 2.5], "translate": [1.25, -5]}, [3.75, 0, 3.75, 0]))
+
+    def test_there_and_back(self):
+        self.assertEqual(noshinka.build(noshinka.back(SHARED_EDGE, rewind="keep")), SHARED_EDGE)
+        metres = noshinka.build({"a": [point(2600000.25, 1200000, properties={"area": 0.5}), Shape()]}, step=0.25, scales={"area": 100})
+        again = noshinka.back(metres, rewind="keep", scales={"area": 100})
+        self.assertEqual(noshinka.build(again, step=0.25, scales={"area": 100}), metres)
+
+    def test_another_transform(self):
+        like = b'{"transform":{"translate":[0.000001,0],"scale":[0.000003,-5e-6]},"type":"Topology","arcs":5}'
+        answer = noshinka.back(SQUARE, like=like)
+        self.assertIn(b'"transform":{"scale":[0.000003,-5e-6],"translate":[0.000001,0]}', answer)
+        self.assertEqual(answer.json()["arcs"], [[[0, 0], [0, -2], [3, 0], [0, 2], [-3, 0]]])
+        with tempfile.TemporaryDirectory() as folder:
+            path = pathlib.Path(folder, "like.json")
+            path.write_bytes(b"\xef\xbb\xbf" + like)
+            self.assertEqual(noshinka.back(SQUARE, like=path), answer)
+        self.assertEqual(noshinka.back(SQUARE, like=json.loads(like)).json(), answer.json())
+        self.assertEqual(noshinka.back(SQUARE, like=noshinka.back(SQUARE)), noshinka.back(SQUARE))
+
+    def test_numbers_along_an_axis(self):
+        self.assertEqual(noshinka.back(SQUARE, quantize=11), noshinka.back(SQUARE))
+        self.assertEqual(noshinka.back(SQUARE, quantize=4).json()["arcs"], [[[0, 0], [0, 3], [3, 0], [0, -3], [-3, 0]]])
+        self.assertEqual(noshinka.back(SQUARE, quantize=2**40).json()["arcs"][0][0], [0, 0])
+
+    def test_numbers_of_texts(self):
+        one, two = self.NUMBERS, {"rate": 1, "area": -3}
+        for numbers, wanted in (
+            (False, one), ([], one), (True, {**one, "rate": 0.5}), ("code", {**one, "code": 7}), (["code", "rate", "name"], {**one, "rate": 0.5, "code": 7}),
+            (iter(("rate", "none")), {**one, "rate": 0.5}),
+        ):  # fmt: skip
+            self.assertEqual(self.properties(numbers=numbers), [wanted, two])
+        self.assertEqual(self.properties(numbers=True, scales={"area": 10, "rate": 1}), [{**one, "rate": 0.5, "area": 2.5}, {"rate": 1, "area": -0.3}])
+
+    def test_texts_as_togrid_reads_them(self):
+        self.assertEqual(noshinka.back(b"\xef\xbb\xbf" + SQUARE), noshinka.back(SQUARE))
+        for text, like, said in (
+            (b"[", None, "text 0: 1 NotJson $"),
+            (gzip.compress(SQUARE), None, "text 0: 1 NotJson $: compressed, gunzip it first"),
+            ("map.json", None, "text 0: 1 NotJson $: is it the name of a file? pathlib.Path of it is read"),
+            (noshinka.back(SQUARE), None, "text 0: 5 NotWhole $/transform/scale/0"),
+            (SQUARE, b"[", "text 1: 1 NotJson $"),
+            (SQUARE, LEFT, "text 1: 4 UnknownType $/type"),
+            (SQUARE, b'{"type":"Topology"}', "text 1: 15 NoTransform $/transform"),
+        ):
+            with self.subTest(said), self.assertRaises(noshinka.Fault) as told:
+                noshinka.back(text, like=like)
+            self.assertEqual((str(told.exception), told.exception.place), (said, int(like is not None)))
+
+    def test_a_room_that_is_too_small(self):
+        names = [f"a{n}" for n in range(100)]
+        text = whole({"a": [point(n, 0, properties={it: 1 for it in names}) for n in range(50)]})
+        answer = noshinka.back(text, scales={it: 10**12 for it in names})
+        self.assertGreater(len(answer), 2 * len(text) + 1024)
+        self.assertEqual(answer.json()["objects"]["a"]["geometries"][49]["properties"], {it: 1e-12 for it in names})
+
+    @unittest.skipUnless(ARE_THERE, "there are no programs")
+    def test_the_bytes_of_togrid(self):
+        ring = [[0, 0], [9, 1], [10, 10], [3, 9], [0, 0]]
+        hole = [[2, 2], [5, 5], [3, 6], [2, 2]]
+        given = [point(n, 7 * n, id=n, properties={"rate": n / 8, "area": n, "it's": f"{n}"}) for n in range(9)]
+        text = noshinka.build({"a": [{"type": "Polygon", "coordinates": [ring, hole]}, *given], "b": LEFT})
+        like = b'{"type":"Topology","transform":{"scale":[0.0036,-18e-4],"translate":[-180,90]}}'
+        seen = set()
+        with tempfile.TemporaryDirectory() as folder:
+            files = [pathlib.Path(folder, it) for it in ("map.json", "like.json")]
+            for path, it in zip(files, (text, like)):
+                path.write_bytes(it)
+            for chosen in itertools.product(
+                (({}, []), ({"unit": 1}, ["--unit", "1"]), ({"unit": "0.25"}, ["--unit", "0.25"])),
+                (({}, []), ({"like": like}, ["--like", str(files[1])]), ({"quantize": 2}, ["--quantize", "2"]), ({"quantize": 1000}, ["--quantize", "1000"])),
+                (({}, []), ({"numbers": True}, ["--numbers"]), ({"numbers": ["rate", "it's"]}, ["--numbers=rate,it's"])),
+                (({}, []), ({"scales": {"area": 1000, "none": 1}}, ["--reals", "scale:area=1000", "--reals", "scale:none=1"])),
+                (({}, []), ({"rewind": "rfc7946"}, ["--rewind", "rfc7946"]), ({"rewind": "keep"}, ["--rewind", "keep"])),
+            ):
+                options = {name: value for named, _ in chosen for name, value in named.items()}
+                words = [it for _, said in chosen for it in said]
+                with self.subTest(words):
+                    answer = noshinka.back(text, **options)
+                    self.assertEqual(answer, ran("togrid", "--back", *words, str(files[0])))
+                    seen.add(answer)
+        self.assertGreaterEqual(len(seen), 200)
+
+
+class Checks(unittest.TestCase):
+    APART = {"a": [
+        {"type": "Feature", "id": 1, "geometry": {"type": "Polygon", "coordinates": [[[0, 0], [10, 0], [10, 10], [0, 10], [0, 0]]]}},
+        {"type": "Feature", "id": 2, "geometry": {"type": "Polygon", "coordinates": [[[11, 0], [20, 0], [20, 10], [11, 10], [11, 0]]]}},
+    ]}  # fmt: skip
+
+    def test_nothing_else_asked(self):
+        self.assertIs(noshinka.check(SHARED_EDGE, ids=False, near=None, listed=0), True)
+        self.assertIs(noshinka.check(SHARED_EDGE + b"\n"), False)
+
+    def test_ids(self):
+        found = noshinka.check(SHARED_EDGE, ids=True)
+        self.assertEqual(found, noshinka.Checked(True, (noshinka.LayerIds("a", (0, 1), ()),), None, ()))
+        self.assertFalse(found)
+        self.assertEqual(noshinka.check(SAME_IDS, ids=True).ids, (noshinka.LayerIds("a", (), (0, 1)),))
+        self.assertFalse(noshinka.check(SAME_IDS, ids=True))
+        text = whole({"b": [point(n, 0, id=n // 2) for n in range(5)], "a": [point(0, 0, id=2), point(0, 0), point(1, 0, id="2")]})
+        found = noshinka.check(text, ids=True)
+        self.assertEqual(found.ids, (noshinka.LayerIds("a", (0,), ()), noshinka.LayerIds("b", (), (0, 1, 2, 3))))
+        self.assertEqual((found.canonical, found.near_count, found.near_pairs), (True, None, ()))
+        self.assertEqual(noshinka.check(NO_FEATURES, ids=True).ids, (noshinka.LayerIds("a", (), ()),))
+
+    def test_near_vertices(self):
+        text = whole(self.APART)
+        pairs = (((10, 0), (11, 0)), ((10, 10), (11, 10)))
+        found = noshinka.check(text, near=1)
+        self.assertEqual(found, noshinka.Checked(True, None, 2, pairs))
+        self.assertFalse(found)
+        for listed, wanted in ((0, ()), (1, pairs[:1]), (2**32 - 1, pairs)):
+            self.assertEqual(noshinka.check(text, near=1, listed=listed), noshinka.Checked(True, None, 2, wanted))
+        many = whole({"a": [point(n, 0, id=n) for n in range(200)]})
+        found = noshinka.check(many, near=2)
+        self.assertEqual((found.near_count, found.near_pairs[:3], len(found.near_pairs)), (199 + 198, (((0, 0), (1, 0)), ((0, 0), (2, 0)), ((1, 0), (2, 0))), 10))
+        self.assertEqual(len(noshinka.check(many, near=100, listed=5000).near_pairs), 5000)
+        tens = whole({"a": point(-500, 3), "b": point(-490, 8)}, (10, 5, -500, 3))
+        self.assertEqual(noshinka.check(tens, near=1).near_pairs, (((-500, 3), (-490, 8)),))
+
+    def test_both(self):
+        text = whole(self.APART)
+        self.assertFalse(noshinka.check(text, ids=True, near=1))
+        good = noshinka.remove(text, whole({"a": self.APART["a"][0]}))
+        found = noshinka.check(good, ids=True, near=100)
+        self.assertEqual(found, noshinka.Checked(True, (noshinka.LayerIds("a", (), ()),), 0, ()))
+        self.assertTrue(found)
+        found = noshinka.check(good + b"\n", ids=True, near=100)
+        self.assertEqual((bool(found), found.canonical, found.near_count), (False, False, 0))
+        with self.assertRaises(dataclasses.FrozenInstanceError):
+            found.canonical = True
+
+    def test_refusals(self):
+        with self.assertRaises(noshinka.Fault) as told:
+            noshinka.check(b"[", ids=True)
+        self.assertEqual((told.exception.number, str(told.exception)), (1, "text 0: 1 NotJson $"))
+        for near in (1.5, "1"):
+            with self.assertRaises(TypeError):
+                noshinka.check(SHARED_EDGE, near=near)
 
 
 class Files(unittest.TestCase):
@@ -492,6 +662,19 @@ class Errors(unittest.TestCase):
             ("ids", "--ids: a feature without an id in layer a", lambda: noshinka.neighbors(SHARED_EDGE, "a", ids=True)),
             ("ids", "--ids: a feature without an id in layer a", lambda: noshinka.neighbors(SHARED_EDGE, "a", keyed=True)),
             ("keyed", "--keyed: two features with one id in layer a", lambda: noshinka.neighbors(SAME_IDS, "a", keyed=True)),
+            ("ids", "--ids: a feature without an id in layer a", lambda: noshinka.neighbors(noshinka.merge([SAME_IDS, SHARED_EDGE]), "a", keyed=True)),
+            ("near", "bad steps 0", lambda: noshinka.check(SHARED_EDGE, near=0)),
+            ("near", "bad steps 101", lambda: noshinka.check(SHARED_EDGE, ids=True, near=101)),
+            ("listed", "bad listed -1", lambda: noshinka.check(SHARED_EDGE, near=1, listed=-1)),
+            ("unit", "bad unit 0", lambda: noshinka.back(SQUARE, unit=0)),
+            ("unit", "bad unit ", lambda: noshinka.back(SQUARE, unit="")),
+            ("unit", "bad unit 1e-31", lambda: noshinka.back(SQUARE, unit="1e-31")),
+            ("unit", "bad unit 1e-19", lambda: noshinka.back(SQUARE, unit="1e-19", quantize=9)),
+            ("quantize", "bad quantize 1", lambda: noshinka.back(SQUARE, quantize=1)),
+            ("quantize", f"bad quantize {2**40 + 1}", lambda: noshinka.back(SQUARE, quantize=2**40 + 1)),
+            ("quantize", "quantize goes without like", lambda: noshinka.back(SQUARE, quantize=2, like=SQUARE)),
+            ("scales", "bad reals scale:area=50", lambda: noshinka.back(SQUARE, scales={"area": 50})),
+            ("rewind", "rewind is one of keep, rfc7946, d3, and not 'left'", lambda: noshinka.back(SQUARE, rewind="left")),
         ):
             with self.subTest(said), self.assertRaises(noshinka.Usage) as told:
                 call()

@@ -59,6 +59,29 @@ pub(crate) struct CRoundOptions {
 }
 
 #[repr(C)]
+pub(crate) struct CBackOptions {
+    pub(crate) size: usize,
+    pub(crate) unit: Bytes,
+    pub(crate) like: Bytes,
+    pub(crate) properties: *const Bytes,
+    pub(crate) property_count: usize,
+    pub(crate) scales: *const Scaled,
+    pub(crate) scale_count: usize,
+    pub(crate) count: u64,
+    pub(crate) numbers: u32,
+    pub(crate) transform: u32,
+    pub(crate) rewind: u32,
+}
+
+#[repr(C)]
+pub(crate) struct CQualityOptions {
+    pub(crate) size: usize,
+    pub(crate) ids: u32,
+    pub(crate) near: u32,
+    pub(crate) listed: u32,
+}
+
+#[repr(C)]
 pub(crate) struct CMeshOptions {
     pub(crate) size: usize,
     pub(crate) layer: Bytes,
@@ -102,7 +125,9 @@ extern "C" {
     pub(crate) fn noshinka_merge(texts: *const Bytes, count: usize, room: *mut u8, size: usize) -> Outcome;
     pub(crate) fn noshinka_remove(text: *const u8, length: usize, removed: *const u8, removed_length: usize, room: *mut u8, size: usize) -> Outcome;
     pub(crate) fn noshinka_edit(text: *const u8, length: usize, changes: *const Change, count: usize, room: *mut u8, size: usize) -> Outcome;
+    pub(crate) fn noshinka_back(options: *const CBackOptions, text: *const u8, length: usize, room: *mut u8, size: usize) -> Outcome;
     pub(crate) fn noshinka_check(text: *const u8, length: usize, room: *mut u8, size: usize) -> Outcome;
+    pub(crate) fn noshinka_quality(options: *const CQualityOptions, text: *const u8, length: usize, room: *mut u8, size: usize) -> Outcome;
     pub(crate) fn noshinka_faults(text: *const u8, length: usize, format: u32, grid: *const Grid, room: *mut u8, size: usize) -> Outcome;
     pub(crate) fn noshinka_feature(text: *const u8, length: usize, layer: *const u8, layer_length: usize, room: *mut u8, size: usize) -> Outcome;
     pub(crate) fn noshinka_mesh(options: *const CMeshOptions, text: *const u8, length: usize, room: *mut u8, size: usize) -> Outcome;
@@ -125,6 +150,10 @@ pub(crate) fn lent(bytes: &[u8]) -> Bytes {
         at: bytes.as_ptr(),
         length: bytes.len(),
     }
+}
+
+pub(crate) fn lent_each(texts: &[&[u8]]) -> Vec<Bytes> {
+    texts.iter().map(|text| lent(text)).collect()
 }
 
 /// The bytes of a name, and no bytes where there is none.

@@ -5,7 +5,8 @@ use std::fmt;
 #[derive(Clone, PartialEq, Eq, Debug)]
 #[non_exhaustive]
 pub enum Error {
-    /// A number of a grid or of options is outside its limits, or ids are asked for and a feature has none.
+    /// A number of a grid or of options is outside its limits; or ids are asked for and a feature has none, or keys and two features
+    /// have one id.
     Usage,
     /// A text is refused.
     Fault(Fault),
@@ -121,7 +122,7 @@ impl fmt::Display for Error {
     fn fmt(&self, f: &mut fmt::Formatter<'_>) -> fmt::Result {
         match self {
             Error::Usage => f.write_str(
-                "a number of a grid or of options is outside its limits, or ids where a feature has none",
+                "a number of a grid or of options is outside its limits, or a feature has no id of its own",
             ),
             Error::Fault(fault) => fault.fmt(f),
             Error::OutOfMemory => f.write_str("out of memory"),

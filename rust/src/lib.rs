@@ -15,22 +15,26 @@
 //!
 //! Every call takes texts and returns a text, or an [`Error`]; none panics. Texts are bytes: GeoJSON with whole numbers on the
 //! grid for [`build`], GeoJSON in decimal numbers and topologies of any tool for [`round`], topologies in whole numbers for all
-//! others. A call keeps nothing, and may be made from any number of threads; none may be made
+//! others. [`back`] leads back to decimal numbers. A call keeps nothing, and may be made from any number of threads; none may be made
 //! from a signal handler, nor in the child of a fork of a process that had threads. It wants 512 KiB of stack.
 //!
 //! What is proved is the library below. That this crate calls it rightly is not: its `unsafe` blocks say why they do.
 #![forbid(unsafe_op_in_unsafe_fn)]
 #![warn(missing_docs)]
 
+mod back;
 mod calls;
 mod error;
 mod questions;
 mod rounding;
 mod text;
 
-use calls::{answer, ended, length_of, lent, sources_of, Bytes, Change, Outcome};
+pub use back::{back, BackOptions, Numbers, Transform};
+use calls::{answer, ended, length_of, lent, lent_each, sources_of, Change, Outcome};
 pub use error::{Error, Fault, FaultKind};
-pub use questions::{diff, feature, info, mesh, neighbors, Edges, Form, Lists};
+pub use questions::{
+    diff, feature, info, mesh, neighbors, quality, Edges, Form, Lists, QualityOptions,
+};
 pub use rounding::{
     round, round_features, round_with_report, Collapsed, Fix, Reals, Rewind, RoundOptions, Scale,
 };
@@ -87,7 +91,7 @@ pub fn build(grid: Grid, sources: &[(&str, &[u8])]) -> Result<Topology, Error> {
 /// [`Error::Fault`] for the first text that is refused, [`OtherGrid`](FaultKind::OtherGrid) for one on another grid, and
 /// [`BadPlan`](FaultKind::BadPlan) where there is no text; [`Error::OutOfMemory`].
 pub fn merge(texts: &[&[u8]]) -> Result<Topology, Error> {
-    let list: Vec<Bytes> = texts.iter().map(|text| lent(text)).collect();
+    let list = lent_each(texts);
     let size = texts.iter().map(|text| text.len()).sum::<usize>() + 1024;
     // SAFETY: as in `build`.
     let text = answer(size, |room| unsafe {

@@ -23,7 +23,7 @@ pub enum Lists {
     Places,
     /// The same with ids, which each feature then needs.
     Ids,
-    /// An object with a list of ids for each id. An id that comes twice in the layer comes twice in it.
+    /// An object with a list of ids for each id, none of which may be that of two features.
     KeyedIds,
 }
 
@@ -89,7 +89,7 @@ pub fn mesh(text: &[u8], layer: Option<&str>, edges: Edges<'_>) -> Result<Vec<u8
 ///
 /// # Errors
 /// [`Error::Fault`], [`NoLayer`](crate::FaultKind::NoLayer) if there is no such layer; [`Error::Usage`] if ids are asked for and a
-/// feature has none; [`Error::OutOfMemory`].
+/// feature has none, or keys and two features have one id; [`Error::OutOfMemory`].
 pub fn neighbors(
     text: &[u8],
     layer: &str,
@@ -163,6 +163,68 @@ pub fn info(text: &[u8], form: Form) -> Result<Vec<u8>, Error> {
             text.as_ptr(),
             text.len(),
             json,
+            room.as_mut_ptr(),
+            room.len(),
+        )
+    })
+}
+
+/// What [`quality`] looks for beside the canonical text. The default asks for nothing, and lists ten pairs at most.
+///
+/// ```
+/// let options = noshinka::QualityOptions { ids: true, near: 1, ..Default::default() };
+/// assert_eq!(options.listed, 10);
+/// ```
+#[derive(Clone, Copy, PartialEq, Eq, Debug)]
+pub struct QualityOptions {
+    /// Whether features are looked for that have no id, or one that occurs more than once in their layer.
+    pub ids: bool,
+    /// How many grid steps apart vertices are at most that are near each other, 1 to 100; 0 looks for none. One feature has only the
+    /// one of them, and another only the other, as where a border was drawn twice.
+    pub near: u32,
+    /// How many pairs of such vertices are listed at most.
+    pub listed: u32,
+}
+
+impl Default for QualityOptions {
+    fn default() -> QualityOptions {
+        QualityOptions {
+            ids: false,
+            near: 0,
+            listed: 10,
+        }
+    }
+}
+
+/// Whether a topology's text is canonical, and what else was asked for, as a JSON object: for each layer the numbers, from 0, of the
+/// features without an id and of those whose id is repeated; how many pairs of vertices are near each other, and the positions of the
+/// first. What wasn't asked for is null. `noshinka-serde` makes a value of it.
+///
+/// ```
+/// use noshinka::{build, quality, Grid, QualityOptions};
+///
+/// let map = build(Grid::WHOLE, &[("towns", br#"{"type":"MultiPoint","coordinates":[[3,4],[5,6]]}"#)])?;
+/// let options = QualityOptions { ids: true, ..Default::default() };
+/// let found = quality(&map, &options)?;
+/// assert_eq!(found, br#"{"canonical":true,"ids":[{"layer":"towns","missing":[0],"repeated":[]}],"near":null}"#);
+/// # Ok::<(), noshinka::Error>(())
+/// ```
+///
+/// # Errors
+/// [`Error::Fault`]; [`Error::Usage`] if the steps are more than 100; [`Error::OutOfMemory`].
+pub fn quality(text: &[u8], options: &QualityOptions) -> Result<Vec<u8>, Error> {
+    let c_options = calls::CQualityOptions {
+        size: calls::size::<calls::CQualityOptions>(),
+        ids: u32::from(options.ids),
+        near: options.near,
+        listed: options.listed,
+    };
+    // SAFETY: as in `mesh`.
+    answer(4096, |room| unsafe {
+        calls::noshinka_quality(
+            &c_options,
+            text.as_ptr(),
+            text.len(),
             room.as_mut_ptr(),
             room.len(),
         )

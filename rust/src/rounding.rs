@@ -3,7 +3,7 @@ use crate::calls::{self, answer, length_of, lent, lent_name, sources_of, Bytes, 
 use crate::text::{FeatureCollection, Topology};
 use crate::Error;
 
-/// A property whose numbers are multiplied by a power of ten and rounded.
+/// A property whose numbers are multiplied by a power of ten and rounded, and by [`back`](crate::back()) divided by it.
 #[derive(Clone, Copy, PartialEq, Eq, Debug)]
 pub struct Scale<'a> {
     /// The property, a member of `properties` itself.
@@ -100,7 +100,7 @@ pub struct RoundOptions<'a> {
     pub renames: bool,
 }
 
-fn scaled(scales: &[Scale<'_>]) -> Vec<Scaled> {
+pub(crate) fn scaled(scales: &[Scale<'_>]) -> Vec<Scaled> {
     let lend = |scale: &Scale<'_>| Scaled {
         property: lent(scale.property.as_bytes()),
         zeros: scale.zeros,
@@ -109,7 +109,7 @@ fn scaled(scales: &[Scale<'_>]) -> Vec<Scaled> {
 }
 
 /// A decimal number, which has to have a digit: no text stands for none.
-fn decimal(word: Option<&str>) -> Result<Bytes, Error> {
+pub(crate) fn decimal(word: Option<&str>) -> Result<Bytes, Error> {
     match word {
         Some("") => Err(Error::Usage),
         _ => Ok(lent_name(word)),

@@ -1,8 +1,9 @@
 //! Each call, its options, its errors, rooms that are too small, and threads.
 use noshinka::{
-    build, check, diff, edit, fault_name, faults, feature, info, merge, mesh, neighbors, remove,
-    round, round_features, round_with_report, Collapsed, Edges, Edit, Error, Fault, FaultKind, Fix,
-    Form, Grid, Lists, Reals, Rewind, RoundOptions, Scale, Topology,
+    back, build, check, diff, edit, fault_name, faults, feature, info, merge, mesh, neighbors,
+    quality, remove, round, round_features, round_with_report, BackOptions, Collapsed, Edges, Edit,
+    Error, Fault, FaultKind, Fix, Form, Grid, Lists, Numbers, QualityOptions, Reals, Rewind,
+    RoundOptions, Scale, Topology, Transform,
 };
 
 const LEFT: &[u8] = br#"{"type":"Polygon","coordinates":[[[0,0],[1,0],[1,1],[0,1],[0,0]]]}"#;
@@ -138,9 +139,221 @@ fn borders_and_neighbors_by_a_property() {
     assert_eq!(by(&apart, Lists::KeyedIds), r#"{"1":[2],"2":[1]}"#);
     let twice = named_squares([1, 1], ["x", "y"]);
     assert_eq!(
-        shown(neighbors(&twice, "a", None, Lists::KeyedIds).unwrap()),
-        r#"{"1":[1],"1":[1]}"#
+        shown(neighbors(&twice, "a", None, Lists::Ids).unwrap()),
+        "[[1],[1]]"
     );
+    for text in [&twice, &squares()] {
+        let keyed = neighbors(text, "a", None, Lists::KeyedIds);
+        assert_eq!(keyed, Err(Error::Usage));
+    }
+}
+
+/// A square of ten steps.
+const TEN: &[u8] = br#"{"type":"Feature","id":1,"geometry":{"type":"Polygon","coordinates":[[[0,0],[10,0],[10,10],[0,10],[0,0]]]}}"#;
+
+/// What `back` writes of TEN's topology.
+fn ten_back(options: &BackOptions<'_>) -> Result<String, Error> {
+    let text = build(Grid::WHOLE, &[("a", TEN)])?;
+    back(&text, options).map(shown)
+}
+
+fn on(transform: Transform<'_>) -> BackOptions<'_> {
+    BackOptions {
+        transform,
+        ..Default::default()
+    }
+}
+
+#[test]
+fn topologies_go_back_to_the_unit_of_the_map() {
+    let wanted = |arc: &str| {
+        format!(
+            r#"{{"type":"Topology","transform":{{"scale":[0.000001,0.000001],"translate":[0,0]}},"bbox":[0,0,0.00001,0.00001],"objects":{{"a":{{"type":"GeometryCollection","geometries":[{{"id":1,"type":"Polygon","arcs":[[{arc}]]}}]}}}},"arcs":[[[0,0],[0,10],[10,0],[0,-10],[-10,0]]]}}"#
+        )
+    };
+    assert_eq!(ten_back(&Default::default()).unwrap(), wanted("0"));
+    for (rewind, arc) in [
+        (Rewind::D3, "0"),
+        (Rewind::Rfc7946, "-1"),
+        (Rewind::Keep, "-1"),
+    ] {
+        let options = BackOptions {
+            rewind,
+            ..Default::default()
+        };
+        assert_eq!(ten_back(&options).unwrap(), wanted(arc));
+    }
+    let quarters = BackOptions {
+        unit: Some("0.25"),
+        ..Default::default()
+    };
+    let text = ten_back(&quarters).unwrap();
+    assert!(
+        text.contains(r#""scale":[0.25,0.25],"translate":[0,0]},"bbox":[0,0,2.5,2.5]"#),
+        "{text}"
+    );
+    let kept = BackOptions {
+        rewind: Rewind::Keep,
+        ..Default::default()
+    };
+    let text = back(&squares(), &kept).unwrap();
+    assert_eq!(
+        round(&[("", &text)], &Default::default()).unwrap(),
+        squares()
+    );
+}
+
+#[test]
+fn topologies_go_back_to_other_transforms() {
+    let own = ten_back(&Default::default()).unwrap();
+    let like: &[u8] =
+        br#"{"type":"Topology","transform":{"scale":[0.000003,-5e-6],"translate":[0.000001,0]}}"#;
+    for (transform, part) in [
+        (
+            Transform::Like(like),
+            r#""arcs":[[[0,0],[0,-2],[3,0],[0,2],[-3,0]]]"#,
+        ),
+        (
+            Transform::Count(4),
+            r#""arcs":[[[0,0],[0,3],[3,0],[0,-3],[-3,0]]]"#,
+        ),
+        (
+            Transform::Count(2),
+            r#""arcs":[[[0,0],[0,1],[1,0],[0,-1],[-1,0]]]"#,
+        ),
+    ] {
+        let text = ten_back(&on(transform)).unwrap();
+        assert!(text.contains(part), "{text}");
+    }
+    assert_eq!(ten_back(&on(Transform::Like(own.as_bytes()))).unwrap(), own);
+    assert_eq!(ten_back(&on(Transform::Count(11))).unwrap(), own);
+    assert!(ten_back(&on(Transform::Count(1 << 40))).is_ok());
+    for count in [0, 1, (1 << 40) + 1, u64::MAX] {
+        assert_eq!(ten_back(&on(Transform::Count(count))), Err(Error::Usage));
+    }
+}
+
+#[test]
+fn texts_and_scaled_numbers_are_numbers_again() {
+    let scales = [Scale {
+        property: "area",
+        zeros: 2,
+    }];
+    let scaled = RoundOptions {
+        scales: &scales,
+        ..Default::default()
+    };
+    let text = round(&[("a", NUMBERS)], &scaled).unwrap();
+    let properties = |numbers, scales| {
+        let options = BackOptions {
+            numbers,
+            scales,
+            ..Default::default()
+        };
+        shown(back(&text, &options).unwrap())
+    };
+    for (numbers, scales, part) in [
+        (
+            Numbers::Stay,
+            &[][..],
+            r#"{"area":13,"people":8400,"rate":"2.5"}"#,
+        ),
+        (
+            Numbers::Columns,
+            &[],
+            r#"{"area":13,"people":8400,"rate":2.5}"#,
+        ),
+        (
+            Numbers::Named(&["rate", "none"]),
+            &scales,
+            r#"{"area":0.13,"people":8400,"rate":2.5}"#,
+        ),
+        (
+            Numbers::Named(&[]),
+            &[],
+            r#"{"area":13,"people":8400,"rate":"2.5"}"#,
+        ),
+    ] {
+        let text = properties(numbers, scales);
+        assert!(text.contains(part), "{text}");
+    }
+}
+
+#[test]
+fn the_way_back_refuses() {
+    let options = [
+        BackOptions {
+            unit: Some(""),
+            ..Default::default()
+        },
+        BackOptions {
+            unit: Some("0"),
+            ..Default::default()
+        },
+        BackOptions {
+            unit: Some("1e-31"),
+            ..Default::default()
+        },
+        BackOptions {
+            scales: &[Scale {
+                property: "a",
+                zeros: 13,
+            }],
+            ..Default::default()
+        },
+    ];
+    for it in options {
+        assert_eq!(ten_back(&it), Err(Error::Usage));
+    }
+    assert_eq!(
+        fault(back(b"[", &Default::default())).to_string(),
+        "text 0: 1 NotJson $"
+    );
+    for (like, wanted) in [
+        (&b"["[..], "text 1: 1 NotJson $"),
+        (
+            b"{\"type\":\"Topology\"}",
+            "text 1: 15 NoTransform $/transform",
+        ),
+    ] {
+        let refused = fault(ten_back(&on(Transform::Like(like))));
+        assert_eq!(refused.to_string(), wanted);
+    }
+}
+
+#[test]
+fn ids_and_near_vertices_are_found() {
+    let ids = QualityOptions {
+        ids: true,
+        ..Default::default()
+    };
+    let found = |text: &Topology, options: &QualityOptions| shown(quality(text, options).unwrap());
+    assert_eq!(
+        found(&squares(), &Default::default()),
+        r#"{"canonical":true,"ids":null,"near":null}"#
+    );
+    assert_eq!(
+        found(&squares(), &ids),
+        r#"{"canonical":true,"ids":[{"layer":"a","missing":[0,1],"repeated":[]}],"near":null}"#
+    );
+    let twice = named_squares([1, 1], ["x", "y"]);
+    assert!(found(&twice, &ids).contains(r#""missing":[],"repeated":[0,1]"#));
+    let near = |near, listed| QualityOptions {
+        near,
+        listed,
+        ..ids
+    };
+    let two = named_squares([1, 2], ["x", "y"]);
+    assert_eq!(
+        found(&two, &near(1, 10)),
+        r#"{"canonical":true,"ids":[{"layer":"a","missing":[],"repeated":[]}],"near":{"count":0,"pairs":[]}}"#
+    );
+    assert!(found(&two, &near(2, 2))
+        .ends_with(r#","near":{"count":4,"pairs":[[[0,0],[2,0]],[[0,0],[2,1]]]}}"#));
+    assert_eq!(quality(&two, &near(101, 10)), Err(Error::Usage));
+    let longer = Topology::new(format!("{SHARED_EDGE}\n"));
+    assert!(found(&longer, &ids).starts_with(r#"{"canonical":false,"#));
+    assert_eq!(fault(quality(b"[", &ids)).kind, FaultKind::NotJson);
 }
 
 #[test]

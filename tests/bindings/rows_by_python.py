@@ -5,11 +5,12 @@
 NOSHINKA_LIBRARY names the library, TOPOTOOL the program; where there is no program, the answers are compared with the rows
 themselves. A row is left out if its words are none of a call: help, wrong usage, files that can't be read. An answer is what
 the program would print and its status: the bytes of a text, or the line of an error. Rows of togrid, which TOGRID names, are put
-through `round` and `build`, which read the files. Ends with a line of counts, and with status 1 where anything differs, or
+through `round`, `build` and `back`, which read the files. Ends with a line of counts, and with status 1 where anything differs, or
 less than most rows were compared.
 """
 
 import contextlib
+import itertools
 import json
 import os
 import pathlib
@@ -31,7 +32,7 @@ OPTIONS = {
     "build": {"--grid": True},
     "merge": {"--shape": True},
     "remove": {},
-    "check": {},
+    "check": {"--ids": False, "--near": True},
     "feature": {"--layer": True},
     "mesh": {"--layer": True, "--edges": True, "--by": True},
     "neighbors": {"--layer": True, "--ids": False, "--by": True, "--keyed": False},
@@ -42,13 +43,15 @@ OPTIONS = {
 WANTED = {"build": "--grid", "feature": "--layer", "neighbors": "--layer"}
 CHOICES = {"--shape": rows.SHAPES, "--edges": ["all", "interior", "exterior"]}
 FILES = {"remove": 2, "check": 1, "feature": 1, "mesh": 1, "neighbors": 1, "info": 1, "diff": 2}
-# The options of togrid that calls take, with a value or not.
+# The options of togrid that calls take, with a value or not; and those of its way back.
 VALUES = ["step", "unit", "snap", "id", "layer", "heights", "reals", "unclosed", "collapsed", "folded", "collections", "rewind"]
 FLAGS = ["build", "number", "seq", "q"]
+VALUES_BACK = ["unit", "like", "quantize", "reals", "rewind"]
+FLAGS_BACK = ["back", "q"]
 # What togrid alone refuses, of what it is told by words.
 OF_WORDS = [b"several objects would be called", b"more than one file", b"bad reals", b"try '--help'"]
 LEAST_COMPARED = 1000
-LEAST_ROUNDED = 150
+LEAST_ROUNDED = 180
 
 
 class NoCall(Exception):
@@ -90,7 +93,7 @@ def call(command, options, names, texts):
     if command == "remove":
         return noshinka.remove(*texts), 0
     if command == "check":
-        return (b"canonical\n", 0) if noshinka.check(texts[0]) else (b"not canonical\n", 1)
+        return checked(texts[0], "--ids" in options, options.get("--near"))
     if command == "feature":
         return noshinka.feature(texts[0], options["--layer"]), 0
     if command == "mesh":
@@ -108,6 +111,61 @@ def call(command, options, names, texts):
 def spelled(value):
     """A value as the program spells it."""
     return json.dumps(value, ensure_ascii=False, separators=(",", ":"), sort_keys=True)
+
+
+def counted(count, what):
+    """So many of something, in words."""
+    return f"{count} {what}" if count == 1 else f"{count} {what}s"
+
+
+def checked(text, ids, near):
+    """What check prints of a text, and its status, which says whether nothing is wrong."""
+    if near is not None and not re.fullmatch("[0-9]+", near):
+        raise NoCall
+    found = noshinka.check(text, ids=ids, near=None if near is None else int(near))
+    lines = ["canonical" if getattr(found, "canonical", found) else "not canonical"]
+    if ids or near is not None:
+        layers = {it["name"]: noshinka.feature(text, it["name"]).json()["features"] for it in noshinka.info(text).json()["layers"]}
+        lines += lines_of_ids(found.ids, layers) if ids else []
+        lines += lines_of_near(found, int(near), layers) if near is not None else []
+    return "".join(f"{it}\n" for it in lines).encode(), 0 if found else 1
+
+
+def lines_of_ids(ids, layers):
+    """What check prints of ids that are missing, and of those that are there more than once."""
+    lines, counts = [], [0, 0]
+    for it in ids:
+        layer, features = spelled(it.layer), layers[it.layer]
+        lines += [f"layer {layer}: feature {number} has no id" for number in it.missing]
+        same = [(key, [*numbers]) for key, numbers in itertools.groupby(it.repeated, lambda number: spelled(features[number]["id"]))]
+        lines += [f"layer {layer}: id {key} more than once: features {', '.join(map(str, numbers))}" for key, numbers in same]
+        counts = [counts[0] + len(it.missing), counts[1] + len(same)]
+    return [f"ids: {counted(counts[0], 'feature')} without an id, {counted(counts[1], 'id')} more than once", *lines]
+
+
+def positions_in(value):
+    """The positions in coordinates."""
+    if value and isinstance(value[0], int):
+        return {tuple(value)}
+    return {position for it in value for position in positions_in(it)}
+
+
+def place_of(here, there, layers):
+    """Where a vertex is: the first feature that has it, and not the other one."""
+    for layer, features in layers.items():
+        for number, feature in enumerate(features):
+            positions = positions_in((feature["geometry"] or {"coordinates": []})["coordinates"])
+            if here in positions and there not in positions:
+                name = f"id {spelled(feature['id'])}" if "id" in feature else f"feature {number}"
+                return f"{spelled(here)} of layer {spelled(layer)} {name}"
+    return f"{spelled(here)} of no feature"
+
+
+def lines_of_near(found, steps, layers):
+    """What check prints of vertices that are near each other."""
+    more = f", the first {len(found.near_pairs)}" if found.near_count > len(found.near_pairs) else ""
+    lines = [f"{place_of(one, other, layers)} and {place_of(other, one, layers)}" for one, other in found.near_pairs]
+    return [f"near: {counted(found.near_count, 'pair')} of vertices at most {counted(steps, 'step')} apart{more}", *lines]
 
 
 def listed(names, texts, options):
@@ -163,7 +221,7 @@ def answered(words, lent, given):
         return b"", f"topotool: {usage}\n".encode(), 2
 
 
-def rounding(words):
+def rounding(words, values, flags):
     """The options of words of togrid, by the names of the calls, and the files with their names where they have one."""
     options, files, left = {}, [], list(words)
     while left:
@@ -171,9 +229,9 @@ def rounding(words):
         name = option.lstrip("-")
         if not option.startswith("-") or option == "-":
             files.append((option, value) if equals else (None, option))
-        elif name in FLAGS and not equals:
+        elif name in flags and not equals:
             options[name] = True
-        elif name in VALUES and (equals or left) and (name not in options or name == "reals"):
+        elif name in values and (equals or left) and (name not in options or name == "reals"):
             value = value if equals else left.pop(0)
             scale = re.fullmatch("scale:(.*)=(10*)", value)
             if name == "reals" and scale:
@@ -182,22 +240,53 @@ def rounding(words):
                 options[name] = value
         else:
             raise NoCall
-    if not re.fullmatch("[0-9]+", options.get("snap", "0")):
-        raise NoCall
-    return {**options, "snap": int(options.get("snap", "0"))}, files
-
-
-def rounded(words, files):
-    """What togrid would print for some words, and its status, by the package."""
-    options, sources = rounding(words)
+    for name in ("snap", "quantize"):
+        if not re.fullmatch("[0-9]+", options.get(name, "0")):
+            raise NoCall
+        options |= {name: int(options[name])} if name in options else {}
     options.pop("q", None)
+    return options, files
+
+
+def call_of_rounding(words, files):
+    """The call that words of togrid stand for, and what is passed to it."""
+    options, sources = rounding(words, VALUES, FLAGS)
     is_build = options.pop("build", False)
     if any(file not in files for _, file in sources) or not sources or not (is_build or len(sources) == 1):
         raise NoCall
     layers = [(name, pathlib.Path(file)) if name is not None else pathlib.Path(file) for name, file in sources]
+    return noshinka.build if is_build else noshinka.round, layers, {**options, "report": False}
+
+
+def numbers_of(words):
+    """The properties of which words of togrid make numbers, or whether all columns are made some; and the other words."""
+    asked = [it.partition("=")[2] for it in words if it.partition("=")[0] == "--numbers"]
+    names = [name for it in asked for name in it.split(",")]
+    if any(asked) and not all(names):
+        raise NoCall
+    numbers = names if any(asked) else bool(asked)
+    return numbers, [it for it in words if it.partition("=")[0] != "--numbers"]
+
+
+def call_of_way_back(words, files):
+    """The call that words of togrid --back stand for, and what is passed to it."""
+    numbers, others = numbers_of(words)
+    options, sources = rounding(others, VALUES_BACK, FLAGS_BACK)
+    if len(sources) != 1 or sources[0][0] is not None or "reals" in options:
+        raise NoCall
+    file = sources[0][1]
+    if not {file, options.get("like", file)} <= files.keys():
+        raise NoCall
+    options |= {"like": pathlib.Path(options["like"])} if "like" in options else {}
+    options.pop("back")
+    return noshinka.back, pathlib.Path(file), {**options, "numbers": numbers}
+
+
+def rounded(words, files):
+    """What togrid would print for some words, and its status, by the package."""
+    call, given, options = (call_of_way_back if "--back" in words else call_of_rounding)(words, files)
     try:
-        call = noshinka.build if is_build else noshinka.round
-        return bytes(call(layers, **options, report=False)), b"", 0
+        return bytes(call(given, **options)), b"", 0
     except noshinka.Fault as fault:
         return b"", f"togrid: {fault}\n".encode(), 4
     except noshinka.Usage as usage:

@@ -9,7 +9,7 @@ use std::alloc::Global;
 use std::collections::BTreeSet;
 use std::test::Fail;
 use worked_maps::{
-    Drawn, Of, Places, TRIANGLE, closed_ring, map_of, open_line, positions, stand_at,
+    Drawn, Of, Places, TRIANGLE, boxed, closed_ring, map_of, open_line, positions, stand_at,
 };
 
 /// A line or a ring of a map.
@@ -32,16 +32,16 @@ const LOOP: Way = Way {
     places: TRIANGLE,
 };
 
-fn index_of(alloc: Global, drawn: Drawn) -> Result<VisitIndex, Fail> {
-    Ok(VisitIndex::of(alloc, &map_of(alloc, &[drawn])?)?)
+fn index_of(alloc: Global, drawn: Drawn) -> Result<Box<VisitIndex>, Fail> {
+    boxed(alloc, VisitIndex::of(alloc, &map_of(alloc, &[drawn])?))
 }
 
 /// The pieces that a line or a ring is cut into.
 fn pieces(alloc: Global, way: &Way) -> Result<Vec<Piece>, Fail> {
     let index = index_of(alloc, way.map)?;
     match way.of {
-        Of::Line => Ok(cut_line(alloc, &index, &open_line(alloc, way.places)?)?),
-        Of::Ring => Ok(cut_ring(alloc, &index, &closed_ring(alloc, way.places)?)?),
+        Of::Line => Ok(cut_line(alloc, &*index, &open_line(alloc, way.places)?)?),
+        Of::Ring => Ok(cut_ring(alloc, &*index, &closed_ring(alloc, way.places)?)?),
     }
 }
 

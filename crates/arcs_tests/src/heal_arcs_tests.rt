@@ -4,8 +4,8 @@ use heal_arcs::{HealedArcs, heal};
 use std::alloc::Global;
 use std::test::Fail;
 use worked_maps::{
-    Drawn, FIRST, Of, Places, SECOND, SHARED_EDGE, THIRD, TRIANGLE, are_used, positions, refs_of,
-    same_arcs, topology_of,
+    Drawn, FIRST, Of, Places, SECOND, SHARED_EDGE, THIRD, TRIANGLE, are_used, boxed, positions,
+    refs_of, same_arcs, topology_of,
 };
 
 /// A list of old arcs, and of new ones that it becomes.
@@ -115,10 +115,10 @@ const ROWS: &[Row] = &[
 ];
 
 /// Joins what is left of a row's map.
-fn rejoin_row(alloc: Global, row: &Row) -> Result<HealedArcs, Fail> {
-    let whole = topology_of(alloc, &[row.whole])?;
+fn rejoin_row(alloc: Global, row: &Row) -> Result<Box<HealedArcs>, Fail> {
     let ends = positions(alloc, row.ends)?;
-    Ok(heal(alloc, whole.arcs(), row.kept, &ends)?)
+    let whole = topology_of(alloc, &[row.whole])?;
+    boxed(alloc, heal(alloc, whole.arcs(), row.kept, &ends))
 }
 
 /// Whether the new arcs are joined of those of the indexes, and there are no more.
@@ -160,14 +160,26 @@ fn become_lists(alloc: Global, made: &HealedArcs, lists: &[Become]) -> Result<bo
     Ok(true)
 }
 
+/// What was made otherwise than a row says; an empty word where nothing was.
+fn difference(alloc: Global, made: &HealedArcs, row: &Row) -> Result<&'static str, Fail> {
+    if !are_pieces(made, row.pieces) {
+        return Ok("pieces");
+    }
+    if !are_arcs_of_left(alloc, made, row.left)? {
+        return Ok("arcs");
+    }
+    if !become_lists(alloc, made, row.lists)? {
+        return Ok("lists");
+    }
+    Ok("")
+}
+
 #[test]
 fn arcs_and_lists_of_rows(rt: HostRuntime) -> Result<(), Fail> {
     for row in ROWS {
-        let (alloc, title) = (rt.alloc(), row.title);
-        let made = rejoin_row(alloc, row)?;
-        assert!(rt; are_pieces(&made, row.pieces), "{title}: pieces");
-        assert!(rt; are_arcs_of_left(alloc, &made, row.left)?, "{title}: arcs");
-        assert!(rt; become_lists(alloc, &made, row.lists)?, "{title}: lists");
+        let made = rejoin_row(rt.alloc(), row)?;
+        let difference = difference(rt.alloc(), &*made, row)?;
+        assert!(rt; difference.is_empty(), "{}: {difference}", row.title);
     }
     Ok(())
 }

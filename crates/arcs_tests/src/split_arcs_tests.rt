@@ -8,8 +8,8 @@ use std::alloc::Global;
 use std::collections::BTreeSet;
 use std::test::Fail;
 use worked_maps::{
-    Drawn, FIRST, Of, SECOND, SHARED_EDGE, THIRD, TRIANGLE, TURNED_TRIANGLE, are_used, map_of,
-    refs_of, rows, same_arcs, topology_of,
+    Drawn, FIRST, Of, SECOND, SHARED_EDGE, THIRD, TRIANGLE, TURNED_TRIANGLE, are_used, boxed,
+    map_of, refs_of, rows, same_arcs, topology_of,
 };
 
 /// Two maps, and for each arc of each the indexes of the arcs that it is cut into.
@@ -113,10 +113,10 @@ const LINE_TO_A_CORNER: Row = Row {
 };
 
 /// Cuts the arcs of a row's maps again.
-fn recut_row(alloc: Global, row: &Row) -> Result<Recut, Fail> {
+fn recut_row(alloc: Global, row: &Row) -> Result<Box<Recut>, Fail> {
     let left = topology_of(alloc, &[row.left])?;
     let right = topology_of(alloc, &[row.right])?;
-    Ok(recut(alloc, left.arcs(), right.arcs())?)
+    boxed(alloc, recut(alloc, left.arcs(), right.arcs()))
 }
 
 /// Whether the arcs of a side are cut into those of the indexes, and the side has no more arcs.
@@ -136,14 +136,11 @@ fn are_pieces(made: &Recut, side: Side, lists: &[&[i64]]) -> bool {
 fn pieces_of_rows(rt: HostRuntime) -> Result<(), Fail> {
     for row in ROWS {
         let made = recut_row(rt.alloc(), row)?;
+        let is_left = are_pieces(&*made, Side::Left, row.left_pieces);
+        let is_right = are_pieces(&*made, Side::Right, row.right_pieces);
         assert!(rt;
-            are_pieces(&made, Side::Left, row.left_pieces),
-            "{}: left",
-            row.title
-        );
-        assert!(rt;
-            are_pieces(&made, Side::Right, row.right_pieces),
-            "{}: right",
+            is_left && is_right,
+            "{}: left {is_left}, right {is_right}",
             row.title
         );
     }
@@ -207,10 +204,10 @@ fn are_cut_alike(
     right: &ArcTable,
     junctions: &BTreeSet<Pos>,
 ) -> Result<bool, Fail> {
-    let made = recut(alloc, left, right)?;
+    let made = boxed(alloc, recut(alloc, left, right))?;
     Ok(
-        are_cut_at(alloc, &made, Side::Left, left, junctions)?
-            && are_cut_at(alloc, &made, Side::Right, right, junctions)?,
+        are_cut_at(alloc, &*made, Side::Left, left, junctions)?
+            && are_cut_at(alloc, &*made, Side::Right, right, junctions)?,
     )
 }
 
@@ -235,8 +232,8 @@ fn junctions_of(
     right: &ArcTable,
 ) -> Result<BTreeSet<Pos>, Fail> {
     let map = map_of(alloc, &[row.left, row.right])?;
-    let index = VisitIndex::of(alloc, &map)?;
-    junctions_on(alloc, &index, left, right)
+    let index = boxed(alloc, VisitIndex::of(alloc, &map))?;
+    junctions_on(alloc, &*index, left, right)
 }
 
 /// Whether cutting the arcs of a row's maps at the junctions of both maps together gives what `recut`
@@ -299,7 +296,7 @@ fn becomes(
 fn lists_of_lines_and_rings(rt: HostRuntime) -> Result<(), Fail> {
     let made = recut_row(rt.alloc(), &LINE_TO_A_CORNER)?;
     for (title, side, of, used, indexes) in LISTS {
-        let becomes = becomes(rt.alloc(), &made, *side, *of, *used, *indexes)?;
+        let becomes = becomes(rt.alloc(), &*made, *side, *of, *used, *indexes)?;
         assert!(rt; becomes, "{title}");
     }
     Ok(())

@@ -91,12 +91,13 @@ module _ {left right sl sr : TopologyParts} {la ra : Arcs} {lls rls ls ks : List
       (cut_layers J r.arcs.arcs r.right (map.entries n) right.layers
       (layers_after_recut n (union m n) (geometries_unite m n).right right.arcs.arcs r.arcs.arcs r.right is_cut.of_right right.layers hn.topology.layers)))
 
-  pub compared : (c : Comparison) → c.old.items ≡ ls → c.new.items ≡ ks → IsComparisonOf m n c
-  compared c x y = record {
-    arcs = r.arcs.arcs;
-    all = is_cut.table.arcs;
-    old = subst (Pairwise (IsListedLayer (geometry_of (union m n)) r.arcs.arcs) (map.entries m)) (sym x) listed_left;
-    new = subst (Pairwise (IsListedLayer (geometry_of (union m n)) r.arcs.arcs) (map.entries n)) (sym y) listed_right;
+  pub compared : (c : Comparison) → c.arcs ≡ r.arcs → c.old.items ≡ ls → c.new.items ≡ ks → IsComparisonOf m n c
+  compared c w x y = record {
+    all = subst (λ a. AreArcsOf position_cmp (geometry_of (union m n)) a.arcs) (sym w) is_cut.table.arcs;
+    old = subst (λ a. Pairwise (IsListedLayer (geometry_of (union m n)) a.arcs) (map.entries m) c.old.items) (sym w)
+        (subst (Pairwise (IsListedLayer (geometry_of (union m n)) r.arcs.arcs) (map.entries m)) (sym x) listed_left);
+    new = subst (λ a. Pairwise (IsListedLayer (geometry_of (union m n)) a.arcs) (map.entries n) c.new.items) (sym w)
+        (subst (Pairwise (IsListedLayer (geometry_of (union m n)) r.arcs.arcs) (map.entries n)) (sym y) listed_right);
   }
 
 -- ---- a layer of a name
@@ -194,31 +195,31 @@ module _ (m n : Layers) (c : Comparison) (q : List ℕ) (p : LayerPair) (h : IsC
   abbrev G : Geometry Pos
   G = geometry_of (union m n)
 
-  olds : Pairwise (IsListedFor G h.arcs) (set.items (features_at m q)) (geometries_from c.old.items p.old)
-  olds = at_number G h.arcs m c.old.items h.old q p.old named.old
+  olds : Pairwise (IsListedFor G c.arcs.arcs) (set.items (features_at m q)) (geometries_from c.old.items p.old)
+  olds = at_number G c.arcs.arcs m c.old.items h.old q p.old named.old
 
-  news : Pairwise (IsListedFor G h.arcs) (set.items (features_at n q)) (geometries_from c.new.items p.new)
-  news = at_number G h.arcs n c.new.items h.new q p.new named.new
+  news : Pairwise (IsListedFor G c.arcs.arcs) (set.items (features_at n q)) (geometries_from c.new.items p.new)
+  news = at_number G c.arcs.arcs n c.new.items h.new q p.new named.new
 
   pub told_by_ids : IsDifferenceAt (geometries_from c.old.items p.old) (geometries_from c.new.items p.new) (map_list id_of (geometries_from c.old.items p.old)) (map_list id_of (geometries_from c.new.items p.new)) d →
       IsDifference feature_id (set.items (features_at m q)) (set.items (features_at n q)) d
   told_by_ids is =
       let sound = are_sound (union m n) in
-      difference_alike ids.None feature_id (IsListedFor G h.arcs) (λ j k. j ≡ k) (alike G sound h.arcs h.all)
+      difference_alike ids.None feature_id (IsListedFor G c.arcs.arcs) (λ j k. j ≡ k) (alike G sound c.arcs.arcs h.all)
       (λ j k x y a b. ((λ e. sym a ∙ e ∙ b), (λ e. a ∙ e ∙ sym b))) (λ k x a. ((λ e. sym a ∙ e), (λ e. a ∙ e)))
       (set.items (features_at m q)) (set.items (features_at n q)) (geometries_from c.old.items p.old) (geometries_from c.new.items p.new)
       (map_list id_of (geometries_from c.old.items p.old)) (map_list id_of (geometries_from c.new.items p.new)) olds news
-      (keyed_by_ids G sound h.arcs h.all (set.items (features_at m q)) (geometries_from c.old.items p.old) olds)
-      (keyed_by_ids G sound h.arcs h.all (set.items (features_at n q)) (geometries_from c.new.items p.new) news) d is
+      (keyed_by_ids G sound c.arcs.arcs h.all (set.items (features_at m q)) (geometries_from c.old.items p.old) olds)
+      (keyed_by_ids G sound c.arcs.arcs h.all (set.items (features_at n q)) (geometries_from c.new.items p.new) news) d is
 
   pub told_by_values : (name : List ℕ) (ks ls : List Id) → AreKeys name (geometries_from c.old.items p.old) ks → AreKeys name (geometries_from c.new.items p.new) ls →
       IsDifferenceAt (geometries_from c.old.items p.old) (geometries_from c.new.items p.new) ks ls d → IsDifferenceByProperty name (set.items (features_at m q)) (set.items (features_at n q)) d
   told_by_values name ks ls k l is =
       let sound = are_sound (union m n) in
-      difference_alike None (feature_key name) (IsListedFor G h.arcs) IsKey (alike G sound h.arcs h.all) one_key no_key
+      difference_alike None (feature_key name) (IsListedFor G c.arcs.arcs) IsKey (alike G sound c.arcs.arcs h.all) one_key no_key
       (set.items (features_at m q)) (set.items (features_at n q)) (geometries_from c.old.items p.old) (geometries_from c.new.items p.new) ks ls olds news
-      (keyed_by_values G h.arcs name (set.items (features_at m q)) (geometries_from c.old.items p.old) ks olds k)
-      (keyed_by_values G h.arcs name (set.items (features_at n q)) (geometries_from c.new.items p.new) ls news l) d is
+      (keyed_by_values G c.arcs.arcs name (set.items (features_at m q)) (geometries_from c.old.items p.old) ks olds k)
+      (keyed_by_values G c.arcs.arcs name (set.items (features_at n q)) (geometries_from c.new.items p.new) ls news l) d is
 
 -- ---- what the code answers
 
@@ -250,5 +251,5 @@ pub all_pairs : {V E : Type 0} (items : V → List LayerPair) (c : Comparison) (
 all_pairs items c ls ks (Ok v) a b is = λ m n h.
     subst (λ w. IsPairing c.old.items w (items v)) b
     (subst (λ w. IsPairing w ks (items v)) a
-    (is (subst AreInOrder (sym a) (in_order (geometry_of (union m n)) h.arcs m c.old.items h.old)) (subst AreInOrder (sym b) (in_order (geometry_of (union m n)) h.arcs n c.new.items h.new))))
+    (is (subst AreInOrder (sym a) (in_order (geometry_of (union m n)) c.arcs.arcs m c.old.items h.old)) (subst AreInOrder (sym b) (in_order (geometry_of (union m n)) c.arcs.arcs n c.new.items h.new))))
 all_pairs items c ls ks (Err e) a b is = tt

@@ -57,12 +57,11 @@ pub record IsListedLayer (g : Geometry Pos) (arcs : List (List Pos)) (e : List �
   pub name : e.0 ≡ spelled_text l.name
   pub items : Pairwise (IsListedFor g arcs) (set.items e.1) l.geometries
 
--- the layers of both maps, by the arcs of both together
+-- the arcs of both maps together, and the layers of both by these arcs
 pub record IsComparisonOf (m n : Layers) (c : Comparison) : Type 0 where
-  pub arcs : List (List Pos)
-  pub all : AreArcsOf position_cmp (geometry_of (union m n)) arcs
-  pub old : Pairwise (IsListedLayer (geometry_of (union m n)) arcs) (map.entries m) c.old.items
-  pub new : Pairwise (IsListedLayer (geometry_of (union m n)) arcs) (map.entries n) c.new.items
+  pub all : AreArcsOf position_cmp (geometry_of (union m n)) c.arcs.arcs
+  pub old : Pairwise (IsListedLayer (geometry_of (union m n)) c.arcs.arcs) (map.entries m) c.old.items
+  pub new : Pairwise (IsListedLayer (geometry_of (union m n)) c.arcs.arcs) (map.entries n) c.new.items
 
 -- the pair has the layers of the name in the two lists, None for a list that has no such layer
 pub record IsPairIn (olds news : List LayerParts) (q : List ℕ) (p : LayerPair) : Type 0 where

@@ -19,7 +19,7 @@ use crate::fault::CompareFault;
 use crate::keys::Keys;
 use crate::pairs::{LayerPair, pairs_of};
 use crate::property::keys_of;
-use chains::table::ArcRef;
+use chains::table::{ArcRef, ArcTable};
 use faults::OutOfMemory;
 use renumbering::{NewLists, layers_rewritten};
 use split_arcs::{Recut, Side, recut_owned};
@@ -59,9 +59,10 @@ fn layers_by(
     layers_rewritten(alloc, &ListsOf { recut, side }, layers)
 }
 
-/// The layers of two topologies by the same arcs. Their geometries keep their order.
+/// The arcs of two topologies together, and the layers of both by these arcs. Their geometries keep their order.
 #[derive(Drop)]
 pub struct Comparison {
+    arcs: ArcTable,
     old: Vec<Layer>,
     new: Vec<Layer>,
 }
@@ -94,19 +95,24 @@ fn on_one_grid(old: &Topology, new: &Topology) -> bool
     old.grid() == new.grid()
 }
 
-/// The layers of both sides by the new arcs.
+/// The new arcs, and the layers of both sides by them.
 fn comparison_by(
     alloc: Global,
-    recut: &Recut,
+    recut: Recut,
     old: Vec<Layer>,
     new: Vec<Layer>,
 ) -> Result<Comparison, OutOfMemory>
-    ensures old { IfOk result (λ c. c.old.items ≡ map_list (layer_recut recut.now.arcs.arcs recut.now.left) old.items) }
-    ensures new { IfOk result (λ c. c.new.items ≡ map_list (layer_recut recut.now.arcs.arcs recut.now.right) new.items) }
+    ensures arcs { IfOk result (λ c. c.arcs ≡ recut.arcs) }
+    ensures old { IfOk result (λ c. c.old.items ≡ map_list (layer_recut recut.arcs.arcs recut.left) old.items) }
+    ensures new { IfOk result (λ c. c.new.items ≡ map_list (layer_recut recut.arcs.arcs recut.right) new.items) }
 {
-    let old = layers_by(alloc, recut, Side::Left, old)?;
-    let new = layers_by(alloc, recut, Side::Right, new)?;
-    Ok(Comparison { old, new })
+    let old = layers_by(alloc, &recut, Side::Left, old)?;
+    let new = layers_by(alloc, &recut, Side::Right, new)?;
+    Ok(Comparison {
+        arcs: recut.into_arcs(),
+        old,
+        new,
+    })
 }
 
 /// Two topologies by the same arcs. They are passed by value: their layers are moved.
@@ -116,7 +122,7 @@ fn recut_layers(alloc: Global, old: Topology, new: Topology) -> Result<Compariso
     let (old_arcs, old_layers) = old.into_parts();
     let (new_arcs, new_layers) = new.into_parts();
     let both = recut_owned(alloc, old_arcs, new_arcs)?;
-    let made = comparison_by(alloc, &both, old_layers, new_layers)?;
+    let made = comparison_by(alloc, both, old_layers, new_layers)?;
     Ok(made)
 }
 
@@ -149,6 +155,13 @@ impl Comparison {
         ensures { IfOk result (λ d. (m n : Layers) → IsComparisonOf m n self.now → IsDifference feature_id (set.items (features_at m name.now)) (set.items (features_at n name.now)) d) }
     {
         self.difference(alloc, self.pair(name))
+    }
+
+    /// The arcs of both topologies together, whose numbers the lists of both have.
+    pub fn arcs(&self) -> &ArcTable
+        ensures { result.now ≡ self.now.arcs }
+    {
+        &self.arcs
     }
 
     /// The layers of the old topology by the arcs of both, in the order of their names. Their geometries keep their

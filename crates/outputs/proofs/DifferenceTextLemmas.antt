@@ -287,10 +287,10 @@ known_name m n name asked = go (map.contains_key m name) (map.contains_key n nam
 
 module _ (m n : Layers) (c : Comparison) (h : IsComparisonOf m n c) where
   old_names : map.keys m ≡ map_list name_of c.old.items
-  old_names = same_names (geometry_of (union m n)) h.arcs (map.entries m) c.old.items h.old
+  old_names = same_names (geometry_of (union m n)) c.arcs.arcs (map.entries m) c.old.items h.old
 
   new_names : map.keys n ≡ map_list name_of c.new.items
-  new_names = same_names (geometry_of (union m n)) h.arcs (map.entries n) c.new.items h.new
+  new_names = same_names (geometry_of (union m n)) c.arcs.arcs (map.entries n) c.new.items h.new
 
   pub all_asked : (ps : List LayerPair) → IsPairing c.old.items c.new.items ps → ArePairsAsked None m n c ps
   all_asked ps p = record {

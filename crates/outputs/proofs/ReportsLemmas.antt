@@ -1,15 +1,17 @@
 -- Lemmas on what is reported of each error of a text.
-use Rattle.std.proofs.Common.{◌≡◌, ℕ, ◌<◌, ◌≤◌, All, Err, IfOk, List, [], ◌++◌, None, Ok, Option, Result, Some, arith, get_or, length, slice_get, subst, sym, take, vec_len}
+use Rattle.std.proofs.Common.{◌≡◌, ℕ, ◌<◌, ◌≤◌, ◌-◌, All, Err, IfOk, IfSome, List, [], ◌++◌, None, Ok, Option, Result, Some, arith, get_or, inl, inr, length, slice_get, subst, sym, take, vec_len, ◌∙◌}
+use Rattle.std.specs.Borrow.{Bor}
 use Rattle.std.specs.Global.{Vec}
-use Rattle.std.specs.Option.{option_to_list}
+use Rattle.std.specs.Option.{option_copied, option_to_list}
 use Rattle.std.specs.Prelude.{unwrap_or}
-use Rattle.std.proofs.lemmas.List.Elements.{All-head, All-tail}
-use Rattle.std.proofs.lemmas.Option.{get_or_from_slice_get, slice_get-get_or}
+use Rattle.std.proofs.lemmas.List.Elements.{All-get_or, All-head, All-tail}
+use Rattle.std.proofs.lemmas.Option.{get_or_from_slice_get, slice_get-get_or, slice_get_within}
 use Rattle.faults.specs.declared.fault.Fault.{Fault}
 use Rattle.serde_json.specs.Data.{Data}
+use Rattle.serde_json.specs.Read.{read}
 use Rattle.outputs.specs.FaultPlaces.{AreUpTo}
 use Rattle.outputs.specs.LineColumns.{place_behind}
-use Rattle.outputs.specs.ReportsOfTexts.{IsPlaceIn, IsReadAs, IsReport, IsReportOf}
+use Rattle.outputs.specs.ReportsOfTexts.{HasItsId, IsPlaceIn, IsReadAs, IsReport, IsReportOf}
 use Rattle.outputs.specs.declared.fault_reports.features.Format.{Format}
 use Rattle.outputs.specs.declared.fault_reports.line_columns.LineColumn.{LineColumn}
 use Rattle.outputs.specs.declared.fault_reports.report.FaultReport.{FaultReport}
@@ -47,3 +49,26 @@ report_is format bytes text fault place r reads at says = record {
   place = subst (IsPlaceIn bytes) (sym says.place_is) at;
   says = subst (λ f. IsReportOf format text f r.place r) (sym says.fault_is) (subst (λ p. IsReportOf format text fault p r) (sym says.place_is) says);
 }
+
+one_read : (o : Option Data) (a b : Data) → o ≡ Some a → o ≡ Some b → a ≡ b
+one_read o a b e f = cc
+
+some_or_none : (o : Option Data) (a : Data) → o ≡ None → o ≡ Some a → ⊥
+some_or_none o a e f = cc
+
+-- a text is read in one way
+read_once : (bytes : List ℕ) (a b : Data) → IsReadAs bytes a → IsReadAs bytes b → a ≡ b
+read_once bytes a b (inl p) (inl q) = one_read (read bytes) a b p.1 q.1
+read_once bytes a b (inl p) (inr q) = absurd (some_or_none (read bytes) a (q.0 p.0) p.1)
+read_once bytes a b (inr p) (inl q) = absurd (some_or_none (read bytes) b (p.0 q.0) q.1)
+read_once bytes a b (inr p) (inr q) = p.1 ∙ sym q.1
+
+-- the last report has the id of its feature
+pub last_has : (format : Format) (bytes : List ℕ) (text : Data) (rs : List FaultReport) (last : Option (Bor FaultReport)) → IsReadAs bytes text → All (IsReport format bytes) rs
+    → option_copied last ≡ slice_get rs (length rs - 1) → IfSome last (λ r. HasItsId format text r.now)
+last_has format bytes text rs None reads all e = tt
+last_has format bytes text rs (Some b) reads all e =
+    let k : ℕ = length rs - 1 in
+    let is : get_or rs k b.now ≡ b.now = get_or_from_slice_get rs k b.now b.now (sym e) in
+    let h : IsReport format bytes b.now = subst (IsReport format bytes) is (All-get_or (IsReport format bytes) rs k b.now (slice_get_within rs k b.now (sym e)) all) in
+    subst (λ t. HasItsId format t b.now) (read_once bytes h.text text h.reads reads) h.says.id

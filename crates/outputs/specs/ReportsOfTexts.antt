@@ -1,5 +1,6 @@
 -- What is reported of each error of a text.
-use Rattle.std.specs.Prelude.{◌≡◌, ℕ, ◌≤◌, ◌⊎◌, IsUtf8, List, Option, None, Some, length, map, option_map, string_bytes, take}
+use Rattle.std.specs.Prelude.{◌≡◌, ℕ, ◌≤◌, ◌⊎◌, IsUtf8, List, Option, None, Some, String, length, map, option_map, string_bytes, take}
+use Rattle.std.specs.declared.alloc.Global.{Global}
 use Rattle.faults.specs.Fault.{turn_of}
 use Rattle.faults.specs.Path.{Turn}
 use Rattle.faults.specs.declared.fault.Fault.{Fault}
@@ -39,12 +40,20 @@ pub record IsPlaceIn (bytes : List ℕ) (place : LineColumn) : Type 0 where
   pub within : at ≤ length bytes
   pub is : place ≡ place_behind (take at bytes)
 
+-- the text is that of the id of the feature that the error at a path lies in, where it has one
+abbrev pub IsIdAt : Format → Data → List Turn → Option (String Global) → Type 0
+IsIdAt format text path id = option_map (λ s. string_bytes s) id ≡ option_map compact_text (faulty_id format text path)
+
+-- a report has the id of the feature that its error lies in
+abbrev pub HasItsId : Format → Data → FaultReport → Type 0
+HasItsId format text r = IsIdAt format text (turns_of r.fault) r.id
+
 -- a report has the error and the place; its path, its id and its member are the JSON texts of those
 pub record IsReportOf (format : Format) (text : Data) (fault : Fault) (place : LineColumn) (report : FaultReport) : Type 0 where
   pub fault_is : report.fault ≡ fault
   pub place_is : report.place ≡ place
   pub path : string_bytes report.path ≡ quoted (path_text (turns_of fault))
-  pub id : option_map (λ s. string_bytes s) report.id ≡ option_map compact_text (faulty_id format text (turns_of fault))
+  pub id : IsIdAt format text (turns_of fault) report.id
   pub member : option_map (λ s. string_bytes s) report.member ≡ option_map quoted (named_member fault.kind text (turns_of fault))
 
 -- a report of an error of a text, which is at the place of one of its bytes

@@ -15,8 +15,8 @@ mod geometry;
 mod members;
 mod object;
 mod parts;
-mod positions;
 mod text;
+mod vertices;
 
 pub use difference::{
     ChangeCounts, Difference, FeatureChange, LayerChanges, Single, find_difference,

@@ -18,8 +18,8 @@ pub mod Meshing
 pub mod Vertices
 pub mod Ending
 pub mod Halting
-pub mod Parted
-pub mod Wholes
+pub mod NetworkMaps
+pub mod ChosenArcs
 pub mod Counting
 pub mod LeastSteps
 pub mod Turns

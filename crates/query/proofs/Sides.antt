@@ -4,8 +4,7 @@ use Rattle.std.proofs.lemmas.List.{append_assoc, append-nil, take-append-drop}
 use Rattle.std.proofs.lemmas.List.Sorted.{IsPermutation-sym}
 use Rattle.std.specs.List.Sorted.{IsPermutation, IsSorted}
 use Rattle.std.specs.Ordering.{is_eq}
-use Rattle.std.specs.List.{list_any}
-use Rattle.std.specs.BTreeSet.{BTreeSet, contains}
+use Rattle.std.specs.Global.{Vec}
 use Rattle.theory.specs.Geometry.{Geometry, IsSound}
 use Rattle.theory.specs.Lists.{Has}
 use Rattle.theory.specs.Segments.{OnTwo, TwoSegments}
@@ -27,6 +26,7 @@ use Rattle.query.specs.declared.stops.Sides.TheVariants.{One, Two, More}
 use Rattle.query.specs.Stops.{AreHalts, AreJudged, IsJudged, Means, OnOne, OnThreeOf, beside, halts, sided, sided_all, sides_at, stop_step}
 use Rattle.chains.specs.Along.{OnArcs}
 use Rattle.query.specs.Ends.{AmongEnds, HasEnds, by_vertex, vertex_of}
+use Rattle.query.proofs.NetworkMaps.{three_in_two}
 use Rattle.query.proofs.Vertices.{end_side, end_sides, end_or_two}
 
 Means-iff : (s : Sides) (H G : Pos → Type 0) → ((p : Pos) → H p → G p) → ((p : Pos) → G p → H p) → Means s H → Means s G
@@ -194,17 +194,7 @@ judging_step ends left others first n here behind s stops new l c h b is made p 
 -- no vertex lies on two segments, and on one or three
 pub two_only : (S : Pos → Pos → Type 0) (v : Pos) → OnTwo S v → OnOne S v ⊎ OnThreeOf S v → ⊥
 two_only S v t (inl o) = t.2 (o.2 t.0 t.3 ∙ sym (o.2 t.1 t.4))
-two_only S v t (inr o) =
-    elim (t.5 o.0 o.3) [
-      | inl p ↦ elim (t.5 o.1 o.4) [
-        | inl q ↦ o.6 (p ∙ sym q)
-        | inr q ↦ elim (t.5 o.2 o.5) [ inl r ↦ o.7 (p ∙ sym r) | inr r ↦ o.8 (q ∙ sym r) ]
-      ]
-      | inr p ↦ elim (t.5 o.1 o.4) [
-        | inr q ↦ o.6 (p ∙ sym q)
-        | inl q ↦ elim (t.5 o.2 o.5) [ inr r ↦ o.7 (p ∙ sym r) | inl r ↦ o.8 (q ∙ sym r) ]
-      ]
-    ]
+two_only S v t (inr o) = three_in_two S v t o
 
 -- the segments S at a vertex where arcs end are those of the ends, and each other vertex lies on two
 module _ (S : Pos → Pos → Type 0) (ends : List SpanEnd) (stops : List Pos)
@@ -242,23 +232,34 @@ module _ (S : Pos → Pos → Type 0) (ends : List SpanEnd) (stops : List Pos)
       go true e = refl
       go false e = absurd (two_only S v (stops_meet v segment.0 (λ k. true_false (among stops v) k e) segment.1) h)
 
--- whether a set has a position
+-- whether two positions are equal, by their order
 eq_is : (p q : Pos) → is_eq (position_cmp p q) ≡ position_eq p q
 eq_is p q = search rules
 
-pub contains_among : (s : BTreeSet Pos) (q : Pos) → contains position_cmp s q ≡ among s.keys q
-contains_among s q = go s.keys
+eq_back : (v q : Pos) → position_eq q v ≡ is_eq (position_cmp v q)
+eq_back v q = elim (position_decide v q) [
+  | inl e ↦ sym (eq_is q v) ∙ tied_position q v (sym e) ∙ sym (tied_position v q e)
+  | inr n ↦ sym (eq_is q v) ∙ position_apart q v n ∙ sym (position_apart v q (λ e. n (sym e)))
+]
+
+among_last : (keys : List Pos) (v q : Pos) → among (keys ++ (v ∷ [])) q ≡ cond (is_eq (position_cmp v q)) true (among keys q)
+among_last [] v q = ap (λ b. b || false) (eq_back v q) ∙ go (is_eq (position_cmp v q))
   where
-    go : (ks : List Pos) → list_any (λ k. is_eq (position_cmp q k)) ks ≡ list_any (position_eq q) ks
-    go [] = refl
-    go (k ∷ ks) = let p = eq_is q k in let r = go ks in λ i. p i || r i
+    go : (b : Bool) → (b || false) ≡ cond b true false
+    go true = refl
+    go false = refl
+among_last (k ∷ keys) v q = ap (λ b. position_eq q k || b) (among_last keys v q) ∙ go (position_eq q k) (is_eq (position_cmp v q))
+  where
+    go : (a b : Bool) → (a || cond b true (among keys q)) ≡ cond b true (a || among keys q)
+    go true true = refl
+    go true false = refl
+    go false true = refl
+    go false false = refl
 
 -- a vertex is put among the stops
-pub stop_put : (s t : BTreeSet Pos) (b : Bool) (v q : Pos) → b ≡ true →
-    contains position_cmp t q ≡ cond (is_eq (position_cmp v q)) true (contains position_cmp s q) → among t.keys q ≡ stop_step b q (among s.keys q) v
-stop_put s t b v q h e =
-    sym (contains_among t q) ∙ e ∙ ap (λ c. cond (is_eq (position_cmp v q)) true c) (contains_among s q)
-    ∙ sym (ap (λ a. cond a (cond (is_eq (position_cmp v q)) true (among s.keys q)) (among s.keys q)) h)
+pub stop_put : (keys new : List Pos) (b : Bool) (v q : Pos) → b ≡ true → new ≡ keys ++ (v ∷ []) → among new q ≡ stop_step b q (among keys q) v
+stop_put keys new b v q h e =
+    ap (λ l. among l q) e ∙ among_last keys v q ∙ sym (ap (λ a. cond a (cond (is_eq (position_cmp v q)) true (among keys q)) (among keys q)) h)
 
 -- it is not put there
 pub stop_left : (keys : List Pos) (b : Bool) (v q : Pos) → b ≡ false → among keys q ≡ stop_step b q (among keys q) v
@@ -298,10 +299,10 @@ are_halts g sound t table ks ends sorted has moved stops judged = record {
     others v w s = elim (end_or_two g sound t table ks v w s) [ inl h ↦ inl (to v w ((has v w).1 h)) | inr h ↦ inr h ]
 
 -- in the form of the code
-pub stops_told : {E : Type 0} (t : Arcs) (ks : List ℕ) (ends sorted slice : List SpanEnd) (r : Result (BTreeSet Pos) E) →
-    HasEnds t.arcs ks ends → IsPermutation ends sorted → IsSorted by_vertex sorted → slice ≡ sorted → IfOk r (λ s. StandByVertex vertex_of slice → AreJudged slice s.keys) →
-    IfOk r (λ s. (g : Geometry Pos) → IsSound g → IsTableOf g t → AreHalts t.arcs ks s.keys)
+pub stops_told : {E : Type 0} (t : Arcs) (ks : List ℕ) (ends sorted slice : List SpanEnd) (r : Result (Vec Pos) E) →
+    HasEnds t.arcs ks ends → IsPermutation ends sorted → IsSorted by_vertex sorted → slice ≡ sorted → IfOk r (λ s. StandByVertex vertex_of slice → AreJudged slice s.items) →
+    IfOk r (λ s. (g : Geometry Pos) → IsSound g → IsTableOf g t → AreHalts t.arcs ks s.items)
 stops_told t ks ends sorted slice (Ok s) has moved order e judged = λ g sound table.
-    are_halts g sound t table ks ends sorted has moved s.keys
-    (subst (λ w. StandByVertex vertex_of w → AreJudged w s.keys) e judged (sorted_stand vertex_of sorted order))
+    are_halts g sound t table ks ends sorted has moved s.items
+    (subst (λ w. StandByVertex vertex_of w → AreJudged w s.items) e judged (sorted_stand vertex_of sorted order))
 stops_told t ks ends sorted slice (Err f) has moved order e judged = tt

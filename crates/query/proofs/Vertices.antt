@@ -110,7 +110,7 @@ module _ (g : Geometry Pos) (sound : IsSound g) (t : Arcs) (table : IsTableOf g 
   flip : (u v : Pos) → SegmentOf g u v → SegmentOf g v u
   flip = SegmentOf-flip g sound same_position
 
-  two : TwoSegments (SegmentOf g) (JunctionOf g)
+  pub two : TwoSegments (SegmentOf g) (JunctionOf g)
   two = two_segments_of g sound same_position
 
   arc_chain : (k : ℕ) (c : List Pos) → slice_get t.arcs k ≡ Some c → IsChainOf position_cmp g c
@@ -160,7 +160,7 @@ module _ (g : Geometry Pos) (sound : IsSound g) (t : Arcs) (table : IsTableOf g 
       )
 
   -- an arc that has a vertex which is no junction has all segments at the vertex
-  all_beside : (k : ℕ) (c : List Pos) → slice_get t.arcs k ≡ Some c → (v w : Pos) → Has v c → ¬ JunctionOf g v → SegmentOf g v w → Beside v w c
+  pub all_beside : (k : ℕ) (c : List Pos) → slice_get t.arcs k ≡ Some c → (v w : Pos) → Has v c → ¬ JunctionOf g v → SegmentOf g v w → Beside v w c
   all_beside k c e v w h n s = go c (arc_chain k c e) h
     where
       go : (d : List Pos) → IsChainOf position_cmp g d → Has v d → Beside v w d

@@ -6,7 +6,7 @@ pub mod Neighbors
 pub mod ArcUsers
 pub mod Spans
 pub mod Selecting
-pub mod Parting
+pub mod Joining
 pub mod Mesh
 pub mod Members
 pub mod AnswerTexts

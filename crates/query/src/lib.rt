@@ -13,7 +13,6 @@ mod joined;
 mod keyed;
 mod layer_text;
 mod members;
-mod parts;
 mod properties;
 mod questions;
 mod scope;

@@ -13,7 +13,6 @@ use crate::ends::{SpanEnd, ends_of};
 use chains::ArcTable;
 use grid::pos::Pos;
 use std::alloc::{AllocError, Global};
-use std::collections::BTreeSet;
 
 /// The other ends of the segments on which a vertex lies.
 #[derive(Clone, Copy, PartialEq, Eq, Debug)]
@@ -83,21 +82,21 @@ fn count_of(ends: &[SpanEnd], vertex: Pos) -> usize
 }
 
 /// Puts a vertex among the stops unless it lies on two segments.
-fn add_stop(stops: &mut BTreeSet<Pos>, vertex: Pos, sides: Sides) -> Result<(), AllocError>
-    ensures { OnOk result ((q : Pos) → among stops.new.keys q ≡ stop_step (halts sides) q (among stops.old.keys q) vertex) }
+fn add_stop(stops: &mut Vec<Pos>, vertex: Pos, sides: Sides) -> Result<(), AllocError>
+    ensures { OnOk result ((q : Pos) → among stops.new.items q ≡ stop_step (halts sides) q (among stops.old.items q) vertex) }
 {
     if !is_stop(sides) {
         return Ok(());
     }
-    stops.insert(vertex)?;
+    stops.push(vertex)?;
     Ok(())
 }
 
 /// The vertices of ends, which are vertex by vertex, that do not lie on two segments.
-fn stops_by(alloc: Global, ends: &[SpanEnd]) -> Result<BTreeSet<Pos>, AllocError>
-    ensures { IfOk result (λ s. StandByVertex vertex_of ends.now → AreJudged ends.now s.keys) }
+fn stops_by(alloc: Global, ends: &[SpanEnd]) -> Result<Vec<Pos>, AllocError>
+    ensures { IfOk result (λ s. StandByVertex vertex_of ends.now → AreJudged ends.now s.items) }
 {
-    let mut stops = BTreeSet::new(alloc);
+    let mut stops = Vec::new(alloc);
     let mut left = ends;
     while let Some((first, others)) = left.split_first() {
         let (here, behind) = others.split_at(count_of(others, first.at));
@@ -120,8 +119,8 @@ pub(crate) fn stops_of(
     alloc: Global,
     arcs: &ArcTable,
     chosen: &[usize],
-) -> Result<BTreeSet<Pos>, AllocError>
-    ensures { IfOk result (λ stops. (g : Geometry Pos) → IsSound g → IsTableOf g arcs.now → AreHalts arcs.now.arcs chosen.now stops.keys) }
+) -> Result<Vec<Pos>, AllocError>
+    ensures { IfOk result (λ stops. (g : Geometry Pos) → IsSound g → IsTableOf g arcs.now → AreHalts arcs.now.arcs chosen.now stops.items) }
 {
     let mut ends = ends_of(alloc, arcs, chosen)?;
     sort_ends(&mut ends);

@@ -147,7 +147,7 @@ fn ascends(alloc: Global, topology: &Topology, count: usize) -> Result<bool, Fai
 fn geometries_of_a_layer_ascend(rt: HostRuntime) -> Result<(), Fail> {
     for (title, maps, count) in CASES {
         let topology = topology_of(rt.alloc(), *maps)?;
-        assert!(rt; ascends(rt.alloc(), &topology, *count)?, "{title}");
+        assert!(rt; ascends(rt.alloc(), &*topology, *count)?, "{title}");
     }
     Ok(())
 }

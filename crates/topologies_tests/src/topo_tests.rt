@@ -7,8 +7,8 @@ use std::alloc::Global;
 use std::test::Fail;
 use topo::{Body, Topology};
 use worked_maps::{
-    Drawn, FIRST, Places, SHARED_EDGE, TRIANGLE, are_used, has_arcs, insert_all, is_at, refs_of,
-    unit_grid,
+    Drawn, FIRST, Places, SHARED_EDGE, TRIANGLE, are_used, boxed, has_arcs, insert_all, is_at,
+    refs_of, unit_grid,
 };
 
 /// A layer, and the used arcs of each of its geometries in order.
@@ -111,9 +111,10 @@ fn map_of(alloc: Global, layers: &[Layer]) -> Result<FeatureMap, Fail> {
 }
 
 /// The topology on the grid 1,1,0,0.
-fn topology_of(alloc: Global, layers: &[Layer]) -> Result<Topology, Fail> {
+fn topology_of(alloc: Global, layers: &[Layer]) -> Result<Box<Topology>, Fail> {
+    let grid = unit_grid()?;
     let map = map_of(alloc, layers)?;
-    Ok(Topology::build(alloc, &unit_grid()?, &map)?)
+    boxed(alloc, Topology::build(alloc, &grid, &map))
 }
 
 /// The used arcs of a line, or of the first ring of a polygon.
@@ -163,9 +164,9 @@ fn is_topology(topology: &Topology, case: &Case) -> bool {
 fn topologies_of_maps_and_their_copies(rt: HostRuntime) -> Result<(), Fail> {
     for case in CASES {
         let topology = topology_of(rt.alloc(), case.layers)?;
-        assert!(rt; is_topology(&topology, case), "{}", case.title);
-        let copy = topology.copy(rt.alloc())?;
-        assert!(rt; is_topology(&copy, case), "the copy: {}", case.title);
+        assert!(rt; is_topology(&*topology, case), "{}", case.title);
+        let copy = boxed(rt.alloc(), topology.copy(rt.alloc()))?;
+        assert!(rt; is_topology(&*copy, case), "the copy: {}", case.title);
     }
     Ok(())
 }
@@ -189,8 +190,9 @@ fn expands_to(alloc: Global, topology: &Topology, map: &FeatureMap) -> Result<bo
 /// Whether a copy of the topology of a map expands to the map.
 fn is_expanded(alloc: Global, layers: &[Layer]) -> Result<bool, Fail> {
     let map = map_of(alloc, layers)?;
-    let copy = topology_of(alloc, layers)?.copy(alloc)?;
-    expands_to(alloc, &copy, &map)
+    let topology = topology_of(alloc, layers)?;
+    let copy = boxed(alloc, topology.copy(alloc))?;
+    expands_to(alloc, &*copy, &map)
 }
 
 #[test]
@@ -250,7 +252,7 @@ fn walks_both_ways(
 fn walks_from_both_ends(rt: HostRuntime) -> Result<(), Fail> {
     let topology = topology_of(rt.alloc(), SQUARES)?;
     for (title, indexes, places) in WALKS {
-        let walks = walks_both_ways(rt.alloc(), &topology, *indexes, *places)?;
+        let walks = walks_both_ways(rt.alloc(), &*topology, *indexes, *places)?;
         assert!(rt; walks, "{title}");
     }
     Ok(())
@@ -281,8 +283,8 @@ const CORNERS: (i64, i64, i64, i64) = (
 fn bbox_in_absolute_numbers(rt: HostRuntime) -> Result<(), Fail> {
     let grid = Grid::new(10, 10, -500, 0).ok_or("no grid")?;
     let map = map_of(rt.alloc(), DIAGONAL)?;
-    let topology = Topology::build(rt.alloc(), &grid, &map)?;
+    let topology = boxed(rt.alloc(), Topology::build(rt.alloc(), &grid, &map))?;
     assert!(rt; topology.bbox() == Some(CORNERS) && topology.grid() == grid);
-    assert!(rt; expands_to(rt.alloc(), &topology, &map)?);
+    assert!(rt; expands_to(rt.alloc(), &*topology, &map)?);
     Ok(())
 }

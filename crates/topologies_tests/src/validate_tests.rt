@@ -7,7 +7,7 @@ use std::test::Fail;
 use validate::{
     ArcsUsed, add_line_ends, ends_meet, free_loops, is_noded, is_valid_ring, line_run, run,
 };
-use worked_maps::{Places, has_arcs, is_at, lists, positions, refs_of, rows, stand_at};
+use worked_maps::{Places, boxed_some, has_arcs, is_at, lists, positions, refs_of, rows, stand_at};
 
 /// Which arcs are marked as free loops; where a mark is missing, it is not set.
 type Marks = &'static [bool];
@@ -26,18 +26,19 @@ const LOOP_WITH_LINE: Arcs = &[
 ];
 
 /// The table of arcs that are in order and apart.
-fn read(alloc: Global, arcs: &[Places], free: &[bool]) -> Result<Option<ArcTable>, Fail> {
-    let Some(table) = ArcTable::from_sorted(alloc, lists(alloc, arcs)?, free)? else {
+fn read(alloc: Global, arcs: &[Places], free: &[bool]) -> Result<Option<Box<ArcTable>>, Fail> {
+    let arcs = lists(alloc, arcs)?;
+    let Some(table) = boxed_some(alloc, ArcTable::from_sorted(alloc, arcs, free))? else {
         return Ok(None);
     };
-    if is_noded(alloc, &table)? {
+    if is_noded(alloc, &*table)? {
         return Ok(Some(table));
     }
     Ok(None)
 }
 
 /// The table of arcs that stand.
-fn table(alloc: Global, arcs: &[Places], free: &[bool]) -> Result<ArcTable, Fail> {
+fn table(alloc: Global, arcs: &[Places], free: &[bool]) -> Result<Box<ArcTable>, Fail> {
     match read(alloc, arcs, free)? {
         Some(table) => Ok(table),
         None => Err("refused".into()),
@@ -83,7 +84,7 @@ const ARCS: &[(&str, Arcs, Marks, bool)] = rows! {
 /// Whether arcs stand, and are those of their table, with their marks; or whether they don't stand.
 fn stand(alloc: Global, arcs: Arcs, free: Marks, expected: bool) -> Result<bool, Fail> {
     match read(alloc, arcs, free)? {
-        Some(table) => Ok(expected && has_arcs(&table, arcs, free)),
+        Some(table) => Ok(expected && has_arcs(&*table, arcs, free)),
         None => Ok(!expected),
     }
 }
@@ -138,7 +139,7 @@ const RUNS: &[(&str, &[i64], Option<(Place, Place)>)] = rows! {
 /// Whether a list of the arcs of `ROUND` begins and ends at these places.
 fn runs(alloc: Global, indexes: &[i64], ends: Option<(Place, Place)>) -> Result<bool, Fail> {
     let table = table(alloc, ROUND, &[])?;
-    Ok(are_ends(run(&table, &refs_of(alloc, indexes)?), ends))
+    Ok(are_ends(run(&*table, &refs_of(alloc, indexes)?), ends))
 }
 
 #[test]
@@ -170,10 +171,11 @@ fn line_runs(
     indexes: &[i64],
     ends: Option<(Place, Place)>,
 ) -> Result<bool, Fail> {
-    let table = table(alloc, arcs, free)?;
+    let made = table(alloc, arcs, free)?;
+    let table = &*made;
     let mut used = ArcsUsed::none(alloc, table.len())?;
     let list = refs_of(alloc, indexes)?;
-    Ok(are_ends(line_run(&table, &mut used, &list), ends))
+    Ok(are_ends(line_run(table, &mut used, &list), ends))
 }
 
 #[test]
@@ -206,10 +208,11 @@ const RINGS: &[(&str, Arcs, Marks, &[i64], bool)] = rows! {
 };
 
 fn ring(alloc: Global, arcs: Arcs, free: Marks, indexes: &[i64]) -> Result<bool, Fail> {
-    let table = table(alloc, arcs, free)?;
+    let made = table(alloc, arcs, free)?;
+    let table = &*made;
     let mut used = ArcsUsed::none(alloc, table.len())?;
     let list = refs_of(alloc, indexes)?;
-    Ok(is_valid_ring(&table, &mut used, &list))
+    Ok(is_valid_ring(table, &mut used, &list))
 }
 
 #[test]
@@ -224,14 +227,15 @@ fn lists_of_rings(rt: HostRuntime) -> Result<(), Fail> {
 /// The arcs of `ROUND` are all used by a ring, and not by a line before it, whose arcs the ring uses again.
 #[test]
 fn arcs_that_lists_use(rt: HostRuntime) -> Result<(), Fail> {
-    let arcs = table(rt.alloc(), ROUND, &[])?;
+    let made = table(rt.alloc(), ROUND, &[])?;
+    let arcs = &*made;
     let line = refs_of(rt.alloc(), &[1, 2])?;
     let ring = refs_of(rt.alloc(), &[0, -3, -2])?;
     let mut used = ArcsUsed::none(rt.alloc(), arcs.len())?;
     let all_before = used.all();
-    let line_runs = line_run(&arcs, &mut used, &line).is_some();
+    let line_runs = line_run(arcs, &mut used, &line).is_some();
     let all_between = used.all();
-    assert!(rt; line_runs && is_valid_ring(&arcs, &mut used, &ring));
+    assert!(rt; line_runs && is_valid_ring(arcs, &mut used, &ring));
     assert!(rt; !all_before && !all_between && used.all());
     Ok(())
 }
@@ -239,16 +243,17 @@ fn arcs_that_lists_use(rt: HostRuntime) -> Result<(), Fail> {
 /// The arcs of a loop with a line, and of a loop alone: the last list uses the last of them.
 #[test]
 fn arcs_that_lists_of_loops_use(rt: HostRuntime) -> Result<(), Fail> {
-    let arcs = table(rt.alloc(), LOOP_WITH_LINE, &[false, false, true])?;
+    let made = table(rt.alloc(), LOOP_WITH_LINE, &[false, false, true])?;
+    let arcs = &*made;
     let line = refs_of(rt.alloc(), &[1])?;
     let ring = refs_of(rt.alloc(), &[0, -2])?;
     let mut used = ArcsUsed::none(rt.alloc(), arcs.len())?;
-    let line_runs = line_run(&arcs, &mut used, &line).is_some();
+    let line_runs = line_run(arcs, &mut used, &line).is_some();
     let all_before = used.all();
-    let ring_runs = is_valid_ring(&arcs, &mut used, &ring);
+    let ring_runs = is_valid_ring(arcs, &mut used, &ring);
     let all_between = used.all();
     assert!(rt; line_runs && ring_runs && !all_before && !all_between);
-    assert!(rt; is_valid_ring(&arcs, &mut used, &refs_of(rt.alloc(), &[2])?) && used.all());
+    assert!(rt; is_valid_ring(arcs, &mut used, &refs_of(rt.alloc(), &[2])?) && used.all());
     Ok(())
 }
 
@@ -271,7 +276,7 @@ const ENDS: &[(&str, Arcs, Marks, Places, bool)] = rows! {
 
 fn meet(alloc: Global, arcs: Arcs, free: Marks, ends: Places) -> Result<bool, Fail> {
     let table = table(alloc, arcs, free)?;
-    Ok(ends_meet(alloc, &table, &positions(alloc, ends)?)?)
+    Ok(ends_meet(alloc, &*table, &positions(alloc, ends)?)?)
 }
 
 #[test]

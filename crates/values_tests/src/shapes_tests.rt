@@ -13,7 +13,7 @@ use sinks::written::{Itself, Listed, Number, Written};
 use sinks::{Kept, WriteFault};
 use std::alloc::Global;
 use std::test::Fail;
-use worked_maps::{Places, closed_ring, line, open_line, polygon, positions, rows};
+use worked_maps::{Places, boxed, closed_ring, line, open_line, polygon, positions, rows};
 
 /// The greatest x of a position.
 const FAR: i64 = 1_099_511_627_776;
@@ -78,18 +78,22 @@ fn id(alloc: Global, named: Named) -> Result<Id, Fail> {
 }
 
 fn properties(alloc: Global, text: &str) -> Result<Props, Fail> {
-    let value = Value::from_str(alloc, text)?;
-    Ok(Props::from_value(alloc, &value)?)
+    let value = boxed(alloc, Value::from_str(alloc, text))?;
+    Ok(Props::from_value(alloc, &*value)?)
 }
 
 /// A feature by its id, the text of its properties, and its shape.
 type Described = (Named, &'static str, Drawn);
 
 fn feature(alloc: Global, described: Described) -> Result<Feature, Fail> {
-    let id = id(alloc, described.0)?;
     let props = properties(alloc, described.1)?;
+    let id = Box::new(alloc, id(alloc, described.0)?)?;
     let shape = shape(alloc, described.2)?;
-    Ok(Feature { id, props, shape })
+    Ok(Feature {
+        id: Box::into_inner(id),
+        props,
+        shape,
+    })
 }
 
 /// The feature of a point alone.
@@ -126,7 +130,8 @@ fn map_of(alloc: Global, layers: &[Layer]) -> Result<FeatureMap, Fail> {
 }
 
 fn contains(alloc: Global, map: &FeatureMap, name: &str, place: Place) -> Result<bool, Fail> {
-    Ok(map.contains(name, &point(alloc, place)?))
+    let feature = Box::new(alloc, point(alloc, place)?)?;
+    Ok(map.contains(name, &*feature))
 }
 
 /// Names of layers that are added one after another, and whether each is new.
@@ -282,7 +287,8 @@ fn features_are_ordered_and_copied(rt: HostRuntime) -> Result<(), Fail> {
     let features = features(rt.alloc())?;
     assert_eq!(rt; out_of_order(features.as_slice()), None);
     for (place, feature) in features.iter().enumerate() {
-        assert!(rt; feature.copy(rt.alloc())? == *feature, "{place}");
+        let copy = boxed(rt.alloc(), feature.copy(rt.alloc()))?;
+        assert!(rt; *copy == *feature, "{place}");
     }
     Ok(())
 }
@@ -318,7 +324,8 @@ fn shapes_are_ordered_copied_and_fit_grids(rt: HostRuntime) -> Result<(), Fail> 
     let shapes = shapes(rt.alloc())?;
     assert_eq!(rt; out_of_order(shapes.as_slice()), None);
     for (place, shape) in shapes.iter().enumerate() {
-        assert!(rt; shape.copy(rt.alloc())? == *shape, "{place}: the copy");
+        let copy = boxed(rt.alloc(), shape.copy(rt.alloc()))?;
+        assert!(rt; *copy == *shape, "{place}: the copy");
         let is_first = place == 0;
         assert!(rt;
             shape.fits(&fine) && shape.fits(&over) == is_first,
@@ -368,8 +375,8 @@ fn nested(alloc: Global, front: &str, depth: usize, back: &str) -> Result<String
 }
 
 fn refusal(alloc: Global, text: &str) -> Result<Option<PropFault>, Fail> {
-    let value = Value::from_str(alloc, text)?;
-    Ok(Props::from_value(alloc, &value).err())
+    let value = boxed(alloc, Value::from_str(alloc, text))?;
+    Ok(Props::from_value(alloc, &*value).err())
 }
 
 #[test]

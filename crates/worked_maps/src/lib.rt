@@ -11,6 +11,7 @@ use grid::{Grid, Pos};
 pub use printed::fault_line;
 use shapes::{Feature, FeatureMap, Id, Items, Line, Props, Ring, Shape};
 use std::alloc::Global;
+use std::fmt::Debug;
 use std::test::Fail;
 use topo::Topology;
 
@@ -188,10 +189,35 @@ pub fn unit_grid() -> Result<Grid, Fail> {
     Ok(Grid::new(1, 1, 0, 0).ok_or("no grid")?)
 }
 
+/// What a call made, in a box. A function that holds the box drops it by one call, where it would drop a topology or a
+/// table of arcs field by field at each `?`: so its check is short.
+///
+/// # Errors
+/// As the call, or where memory is refused.
+pub fn boxed<T: Drop, E: Debug + Drop>(alloc: Global, made: Result<T, E>) -> Result<Box<T>, Fail> {
+    Ok(Box::new(alloc, made?)?)
+}
+
+/// The same of a call that makes something or nothing.
+///
+/// # Errors
+/// As the call, or where memory is refused.
+pub fn boxed_some<T: Drop, E: Debug + Drop>(
+    alloc: Global,
+    made: Result<Option<T>, E>,
+) -> Result<Option<Box<T>>, Fail> {
+    match made? {
+        Some(made) => Ok(Some(Box::new(alloc, made)?)),
+        None => Ok(None),
+    }
+}
+
 /// The topology of all these maps in one layer.
 ///
 /// # Errors
 /// As `map_of`.
-pub fn topology_of(alloc: Global, maps: &[Drawn]) -> Result<Topology, Fail> {
-    Ok(Topology::build(alloc, &unit_grid()?, &map_of(alloc, maps)?)?)
+pub fn topology_of(alloc: Global, maps: &[Drawn]) -> Result<Box<Topology>, Fail> {
+    let grid = unit_grid()?;
+    let map = map_of(alloc, maps)?;
+    boxed(alloc, Topology::build(alloc, &grid, &map))
 }

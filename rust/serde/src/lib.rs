@@ -1,4 +1,5 @@
-//! Features of `noshinka`'s topologies as values of your own types, by serde. A crate of its own, so that `noshinka` needs no other.
+//! Features of `noshinka`'s topologies as values of your own types, by serde, and what [`quality`](noshinka::quality()) finds. A crate
+//! of its own, so that `noshinka` needs no other.
 //!
 //! ```
 //! use noshinka::{build, Grid};
@@ -66,6 +67,66 @@ pub enum Geometry {
     Polygon(Vec<Vec<Position>>),
     /// Polygons.
     MultiPolygon(Vec<Vec<Vec<Position>>>),
+}
+
+/// What [`quality`](noshinka::quality()) found.
+///
+/// ```
+/// use noshinka::{build, quality, Grid, QualityOptions};
+/// use noshinka_serde::Quality;
+///
+/// let map = build(Grid::WHOLE, &[("towns", br#"{"type":"MultiPoint","coordinates":[[3,4],[5,6]]}"#)])?;
+/// let found = Quality::of_answer(&quality(&map, &QualityOptions { ids: true, near: 1, ..Default::default() })?)?;
+/// assert!(found.canonical && !found.is_good());
+/// assert_eq!(found.ids.unwrap()[0].missing, [0]);
+/// assert_eq!(found.near.unwrap().count, 0);
+/// # Ok::<(), Box<dyn std::error::Error>>(())
+/// ```
+#[derive(Clone, PartialEq, Eq, Debug, Deserialize)]
+pub struct Quality {
+    /// Whether the text is canonical.
+    pub canonical: bool,
+    /// What is wrong with the ids of each layer; `None` if they weren't asked for.
+    pub ids: Option<Vec<LayerIds>>,
+    /// The vertices that are near each other; `None` if they weren't asked for.
+    pub near: Option<Near>,
+}
+
+impl Quality {
+    /// The value of an answer of [`quality`](noshinka::quality()).
+    ///
+    /// # Errors
+    /// If the text is none.
+    pub fn of_answer(answer: &[u8]) -> Result<Quality, serde_json::Error> {
+        serde_json::from_slice(answer)
+    }
+
+    /// Whether the text is canonical, and nothing that was asked for is wrong.
+    pub fn is_good(&self) -> bool {
+        let is_right = |it: &LayerIds| it.missing.is_empty() && it.repeated.is_empty();
+        let is_apart = |it: &Near| it.count == 0;
+        self.canonical && self.ids.iter().flatten().all(is_right) && self.near.iter().all(is_apart)
+    }
+}
+
+/// The ids of a layer that are missing, and those that are repeated.
+#[derive(Clone, PartialEq, Eq, Debug, Deserialize)]
+pub struct LayerIds {
+    /// The name of the layer.
+    pub layer: String,
+    /// The numbers, from 0, of the features without an id.
+    pub missing: Vec<usize>,
+    /// The numbers of the features whose id occurs more than once, those of one id side by side.
+    pub repeated: Vec<usize>,
+}
+
+/// The pairs of vertices that are near each other.
+#[derive(Clone, PartialEq, Eq, Debug, Deserialize)]
+pub struct Near {
+    /// How many there are.
+    pub count: u64,
+    /// The positions of the first of them.
+    pub pairs: Vec<[Position; 2]>,
 }
 
 /// The features of a collection as values.

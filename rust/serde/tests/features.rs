@@ -1,6 +1,6 @@
 //! Features of each kind as values.
-use noshinka::{build, Grid};
-use noshinka_serde::{Feature, Geometry, Id, TypedFeatures};
+use noshinka::{build, quality, Grid, QualityOptions};
+use noshinka_serde::{Feature, Geometry, Id, LayerIds, Near, Quality, TypedFeatures};
 use serde::Deserialize;
 
 #[derive(Deserialize, PartialEq, Debug)]
@@ -108,4 +108,48 @@ fn one_by_one_they_are_the_features_of_the_whole_text() {
     let one_by_one: Vec<serde_json::Value> = layer.features_as().collect::<Result<_, _>>().unwrap();
     assert_eq!(one_by_one.len(), 200);
     assert_eq!(Some(&one_by_one), whole["features"].as_array());
+}
+
+#[test]
+fn quality_is_read() {
+    let points = br#"{"type":"FeatureCollection","features":[
+        {"type":"Feature","id":1,"geometry":{"type":"Point","coordinates":[0,0]}},
+        {"type":"Feature","id":1,"geometry":{"type":"Point","coordinates":[2,-1]}},
+        {"type":"Feature","id":2,"geometry":{"type":"Point","coordinates":[9,9]}}]}"#;
+    let map = build(Grid::WHOLE, &[("a", points)]).unwrap();
+    let found = |ids, near| {
+        let options = QualityOptions {
+            ids,
+            near,
+            ..Default::default()
+        };
+        Quality::of_answer(&quality(&map, &options).unwrap()).unwrap()
+    };
+    let none = Quality {
+        canonical: true,
+        ids: None,
+        near: None,
+    };
+    assert_eq!(found(false, 0), none);
+    assert!(none.is_good());
+    let twice = LayerIds {
+        layer: "a".to_string(),
+        missing: vec![],
+        repeated: vec![0, 1],
+    };
+    let pair = Near {
+        count: 1,
+        pairs: vec![[[0, 0], [2, -1]]],
+    };
+    assert_eq!(
+        found(true, 2),
+        Quality {
+            ids: Some(vec![twice]),
+            near: Some(pair),
+            ..none
+        }
+    );
+    assert!(!found(true, 1).is_good() && !found(false, 2).is_good());
+    assert!(found(false, 1).is_good());
+    assert!(Quality::of_answer(b"{}").is_err());
 }

@@ -35,9 +35,10 @@ const PRINTED: &[(&str, &str, &str)] = rows![
     "no feature", EMPTY, NOTHING_PRINTED;
 ];
 
-fn topology(alloc: Global, text: &str) -> Result<Topology, Fail> {
+/// In a box, which is dropped by one call.
+fn topology(alloc: Global, text: &str) -> Result<Box<Topology>, Fail> {
     let (grid, map) = topo_io::read(alloc, text.as_bytes())?;
-    Ok(Topology::build(alloc, &grid, &map)?)
+    Ok(Box::new(alloc, Topology::build(alloc, &grid, &map)?)?)
 }
 
 /// Whether this is what was kept.
@@ -62,7 +63,7 @@ fn are_features(alloc: Global, topology: &Topology, text: &str) -> Result<bool, 
 
 fn is_written(alloc: Global, text: &str, printed: &str) -> Result<bool, Fail> {
     let topology = topology(alloc, text)?;
-    Ok(is_layer(alloc, &topology, printed) && are_features(alloc, &topology, printed)?)
+    Ok(is_layer(alloc, &*topology, printed) && are_features(alloc, &*topology, printed)?)
 }
 
 #[test]
@@ -93,14 +94,14 @@ fn are_borders(alloc: Global, topology: &Topology, text: &str) -> Result<bool, F
 #[test]
 fn a_topology_expands_to_its_map(rt: HostRuntime) -> Result<(), Fail> {
     let topology = topology(rt.alloc(), SHARED_EDGE)?;
-    assert!(rt; expands(rt.alloc(), &topology, SQUARES_PRINTED)?);
+    assert!(rt; expands(rt.alloc(), &*topology, SQUARES_PRINTED)?);
     Ok(())
 }
 
 #[test]
 fn borders_are_written_in_the_order_of_the_mesh(rt: HostRuntime) -> Result<(), Fail> {
     let topology = topology(rt.alloc(), SHARED_EDGE)?;
-    assert!(rt; are_borders(rt.alloc(), &topology, SQUARES_BORDERS)?);
+    assert!(rt; are_borders(rt.alloc(), &*topology, SQUARES_BORDERS)?);
     Ok(())
 }
 
@@ -142,7 +143,7 @@ const BORDERS: &[BordersRow] = rows![
 fn are_edges(alloc: Global, row: BordersRow) -> Result<bool, Fail> {
     let (_, text, layer, edges, printed) = row;
     let topology = topology(alloc, text)?;
-    let lines = borders(alloc, &topology, layer, edges)?;
+    let lines = borders(alloc, &*topology, layer, edges)?;
     let mut kept = Kept::new(alloc);
     let written = write_mesh(&topology.grid(), &lines, &mut kept);
     Ok(has_kept(kept, printed) && written.is_ok())
@@ -160,7 +161,7 @@ fn borders_by_their_edges(rt: HostRuntime) -> Result<(), Fail> {
 fn borders_of_a_layer_that_is_not_there(rt: HostRuntime) -> Result<(), Fail> {
     let topology = topology(rt.alloc(), SHARED_EDGE)?;
     for edges in [Edges::All, Edges::Interior, Edges::Exterior] {
-        let fault = borders(rt.alloc(), &topology, Some("b"), edges).err();
+        let fault = borders(rt.alloc(), &*topology, Some("b"), edges).err();
         assert!(rt; fault == Some(QueryFault::NoLayer), "{edges:?}");
     }
     Ok(())
@@ -177,7 +178,7 @@ fn are_neighbors(alloc: Global, topology: &Topology, text: &str) -> Result<bool,
 #[test]
 fn neighbors_are_written_feature_by_feature(rt: HostRuntime) -> Result<(), Fail> {
     let topology = topology(rt.alloc(), SHARED_EDGE)?;
-    assert!(rt; are_neighbors(rt.alloc(), &topology, "[[1],[0]]")?);
+    assert!(rt; are_neighbors(rt.alloc(), &*topology, "[[1],[0]]")?);
     Ok(())
 }
 
@@ -185,7 +186,7 @@ fn neighbors_are_written_feature_by_feature(rt: HostRuntime) -> Result<(), Fail>
 fn a_layer_is_written_a_byte_a_call(rt: HostRuntime) -> Result<(), Fail> {
     let topology = topology(rt.alloc(), SHARED_EDGE)?;
     let mut sink = script(rt.alloc(), SQUARES_PRINTED.len(), Answer::Fail)?;
-    assert!(rt; write_layer(&topology, "a", &mut sink).is_ok());
+    assert!(rt; write_layer(&*topology, "a", &mut sink).is_ok());
     assert!(rt; took(&sink, SQUARES_PRINTED.as_bytes(), SQUARES_PRINTED.len(), 0));
     Ok(())
 }
@@ -209,7 +210,7 @@ fn stops(alloc: Global, topology: &Topology, calls: usize) -> Result<bool, Fail>
 fn a_layer_stops_at_each_failure(rt: HostRuntime) -> Result<(), Fail> {
     let topology = topology(rt.alloc(), SHARED_EDGE)?;
     for calls in 0..SQUARES_PRINTED.len() {
-        assert!(rt; stops(rt.alloc(), &topology, calls)?, "{calls}");
+        assert!(rt; stops(rt.alloc(), &*topology, calls)?, "{calls}");
     }
     Ok(())
 }
@@ -218,9 +219,9 @@ fn a_layer_stops_at_each_failure(rt: HostRuntime) -> Result<(), Fail> {
 fn a_layer_that_is_not_there(rt: HostRuntime) -> Result<(), Fail> {
     let topology = topology(rt.alloc(), SHARED_EDGE)?;
     let mut sink = script(rt.alloc(), 0, Answer::Fail)?;
-    let fault = write_layer(&topology, "b", &mut sink).err();
+    let fault = write_layer(&*topology, "b", &mut sink).err();
     assert!(rt; fault == Some(LayerFault::NoLayer) && took(&sink, b"", 0, 0));
-    let fault = feature(rt.alloc(), &topology, "b").err();
+    let fault = feature(rt.alloc(), &*topology, "b").err();
     assert!(rt; fault == Some(QueryFault::NoLayer));
     Ok(())
 }

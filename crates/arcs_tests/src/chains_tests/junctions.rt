@@ -59,8 +59,8 @@ fn are_junctions(index: &VisitIndex, places: Places, junctions: bool) -> bool {
 fn junctions_of_maps(rt: HostRuntime) -> Result<(), Fail> {
     for (title, map, junctions, others) in JUNCTIONS {
         let index = index_of(rt.alloc(), *map)?;
-        assert!(rt; are_junctions(&index, *junctions, true), "{title}");
-        assert!(rt; are_junctions(&index, *others, false), "{title}");
+        assert!(rt; are_junctions(&*index, *junctions, true), "{title}");
+        assert!(rt; are_junctions(&*index, *others, false), "{title}");
     }
     Ok(())
 }

@@ -3,7 +3,7 @@ use crate::chains_tests::{LOOP, Part, Way, are_parts, pieces, stops_at};
 use chains::{ArcTable, cut_arc};
 use std::alloc::Global;
 use std::test::Fail;
-use worked_maps::{Drawn, Of, Places, TURNED_TRIANGLE};
+use worked_maps::{Drawn, Of, Places, TURNED_TRIANGLE, boxed};
 
 /// A line or a ring that has one arc, the stops, and the pieces of the arc.
 struct Row {
@@ -113,14 +113,22 @@ const ROWS: &[Row] = &[
     },
 ];
 
-/// Whether a row's arc is cut into its parts.
-fn is_cut(alloc: Global, row: &Row) -> Result<bool, Fail> {
-    let table = ArcTable::from_pieces(alloc, pieces(alloc, &row.way)?)?;
+/// Whether the only arc of a table is cut into the parts of a row.
+fn is_arc_cut(alloc: Global, table: &ArcTable, row: &Row) -> Result<bool, Fail> {
     if table.len() != 1 {
         return Ok(false);
     }
-    let cut = cut_arc(alloc, &table, 0, &stops_at(alloc, row.stops)?)?;
+    let cut = cut_arc(alloc, table, 0, &stops_at(alloc, row.stops)?)?;
     Ok(are_parts(&cut, row.parts))
+}
+
+/// Whether a row's arc is cut into its parts.
+fn is_cut(alloc: Global, row: &Row) -> Result<bool, Fail> {
+    let table = boxed(
+        alloc,
+        ArcTable::from_pieces(alloc, pieces(alloc, &row.way)?),
+    )?;
+    is_arc_cut(alloc, &*table, row)
 }
 
 #[test]

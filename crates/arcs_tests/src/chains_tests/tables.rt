@@ -3,7 +3,7 @@ use crate::chains_tests::{LOOP, Part, Way, are_parts, pieces, run_along};
 use chains::{ArcTable, Piece};
 use std::alloc::Global;
 use std::test::Fail;
-use worked_maps::{Drawn, FIRST, Of, Places, TURNED_TRIANGLE, has_arcs, refs_of};
+use worked_maps::{Drawn, FIRST, Of, Places, TURNED_TRIANGLE, boxed, has_arcs, refs_of};
 
 /// Lines and rings that are cut, each with the indexes of the arcs that it uses, and the arcs of their
 /// table, of which some may be marked as free loops.
@@ -153,22 +153,22 @@ const ROWS: &[Row] = &[
 ];
 
 /// The table of the pieces of a row's lines and rings.
-fn table_of(alloc: Global, row: &Row) -> Result<ArcTable, Fail> {
+fn table_of(alloc: Global, row: &Row) -> Result<Box<ArcTable>, Fail> {
     let mut made: Vec<Piece> = Vec::new(alloc);
     for (way, _) in row.ways {
         made.append(&mut pieces(alloc, way)?)?;
     }
-    Ok(ArcTable::from_pieces(alloc, made)?)
+    boxed(alloc, ArcTable::from_pieces(alloc, made))
 }
 
 #[test]
 fn tables_of_rows(rt: HostRuntime) -> Result<(), Fail> {
     for row in ROWS {
         let table = table_of(rt.alloc(), row)?;
-        assert!(rt; has_arcs(&table, row.arcs, row.free), "{}", row.title);
-        let copy = table.copy(rt.alloc())?;
+        assert!(rt; has_arcs(&*table, row.arcs, row.free), "{}", row.title);
+        let copy = boxed(rt.alloc(), table.copy(rt.alloc()))?;
         assert!(rt;
-            has_arcs(&copy, row.arcs, row.free),
+            has_arcs(&*copy, row.arcs, row.free),
             "the copy: {}",
             row.title
         );
@@ -186,7 +186,7 @@ fn uses(alloc: Global, table: &ArcTable, way: &Way, indexes: &[i64]) -> Result<b
 fn are_used(alloc: Global, row: &Row) -> Result<bool, Fail> {
     let table = table_of(alloc, row)?;
     for (way, indexes) in row.ways {
-        if !uses(alloc, &table, way, *indexes)? {
+        if !uses(alloc, &*table, way, *indexes)? {
             return Ok(false);
         }
     }

@@ -7,7 +7,7 @@ use shapes::{Feature, FeatureMap, Props};
 use std::alloc::Global;
 use std::test::Fail;
 use topo::Topology;
-use worked_maps::{FIRST, Places, SECOND, THIRD, TRIANGLE, TURNED_TRIANGLE, polygon};
+use worked_maps::{FIRST, Places, SECOND, THIRD, TRIANGLE, TURNED_TRIANGLE, boxed, polygon};
 
 /// The square of `FIRST`, begun at another vertex.
 const FIRST_TURNED: Places = &[(1, 1), (0, 1), (0, 0), (1, 0), (1, 1)];
@@ -119,30 +119,41 @@ const ROWS: &[Row] = &[
     },
 ];
 
+fn props(alloc: Global, text: &str) -> Result<Props, Fail> {
+    let value = boxed(alloc, Value::from_str(alloc, text))?;
+    Ok(Props::from_value(alloc, &*value)?)
+}
+
 fn feature(alloc: Global, drawn: Drawn) -> Result<Feature, Fail> {
     let Drawn(number, text, places) = drawn;
-    let value = serde_json::from_str(alloc, text)?;
+    let props = props(alloc, text)?;
+    let shape = polygon(alloc, places)?;
     Ok(Feature {
         id: id_of(number),
-        props: Props::from_value(alloc, &value)?,
-        shape: polygon(alloc, places)?,
+        props,
+        shape,
     })
 }
 
-fn topology(alloc: Global, layer: &str, scale: i64, features: &[Drawn]) -> Result<Topology, Fail> {
+fn topology(
+    alloc: Global,
+    layer: &str,
+    scale: i64,
+    features: &[Drawn],
+) -> Result<Box<Topology>, Fail> {
     let grid = Grid::new(scale, scale, 0, 0).ok_or("no grid")?;
     let mut map = FeatureMap::new(alloc);
     map.add_layer(layer)?;
     for drawn in features {
         map.insert(layer, feature(alloc, *drawn)?)?;
     }
-    Ok(Topology::build(alloc, &grid, &map)?)
+    boxed(alloc, Topology::build(alloc, &grid, &map))
 }
 
-fn compared(alloc: Global, row: Row) -> Result<Comparison, Fail> {
+fn compared(alloc: Global, row: Row) -> Result<Box<Comparison>, Fail> {
     let old = topology(alloc, "a", 1, row.old)?;
     let new = topology(alloc, "a", 1, row.new)?;
-    Ok(compare(alloc, &old, &new)?)
+    boxed(alloc, compare(alloc, &*old, &*new))
 }
 
 fn are_pairs(changed: &[Changed], pairs: &[(usize, usize)]) -> bool {
@@ -168,21 +179,37 @@ fn removed_added_and_changed(rt: HostRuntime) -> Result<(), Fail> {
     Ok(())
 }
 
+/// Layers of which one topology has the first, another one the second, and none the third: what is removed and added.
+const HALVES: &[(&str, &[usize], &[usize])] = &[
+    ("a", &[0], &[]),
+    ("b", &[], &[0]),
+    ("c", &[], &[]),
+];
+
+fn is_half(
+    alloc: Global,
+    comparison: &Comparison,
+    name: &str,
+    removed: &[usize],
+    added: &[usize],
+) -> Result<bool, Fail> {
+    let made = comparison.layer(alloc, name)?;
+    Ok(
+        made.removed.as_slice() == removed
+            && made.added.as_slice() == added
+            && made.changed.is_empty(),
+    )
+}
+
 #[test]
 fn a_layer_that_one_topology_has(rt: HostRuntime) -> Result<(), Fail> {
     let old = topology(rt.alloc(), "a", 1, &[Drawn(1, "{}", FIRST)])?;
     let new = topology(rt.alloc(), "b", 1, &[Drawn(1, "{}", FIRST)])?;
-    let comparison = compare(rt.alloc(), &old, &new)?;
-    let a = comparison.layer(rt.alloc(), "a")?;
-    let b = comparison.layer(rt.alloc(), "b")?;
-    let c = comparison.layer(rt.alloc(), "c")?;
-    assert!(rt;
-        a.removed.as_slice() == [0].as_slice() && a.added.is_empty() && a.changed.is_empty()
-    );
-    assert!(rt;
-        b.added.as_slice() == [0].as_slice() && b.removed.is_empty() && b.changed.is_empty()
-    );
-    assert!(rt; c.removed.is_empty() && c.added.is_empty() && c.changed.is_empty());
+    let comparison = boxed(rt.alloc(), compare(rt.alloc(), &*old, &*new))?;
+    for (name, removed, added) in HALVES {
+        let is_half = is_half(rt.alloc(), &*comparison, *name, *removed, *added)?;
+        assert!(rt; is_half, "{name}");
+    }
     Ok(())
 }
 
@@ -190,7 +217,7 @@ fn a_layer_that_one_topology_has(rt: HostRuntime) -> Result<(), Fail> {
 fn other_grids(rt: HostRuntime) -> Result<(), Fail> {
     let old = topology(rt.alloc(), "a", 1, &[Drawn(1, "{}", FIRST)])?;
     let new = topology(rt.alloc(), "a", 2, &[Drawn(1, "{}", FIRST)])?;
-    match compare(rt.alloc(), &old, &new) {
+    match compare(rt.alloc(), &*old, &*new) {
         Err(CompareFault::OtherGrid) => Ok(()),
         _ => Err(Fail::from("compared")),
     }

@@ -4,6 +4,7 @@ use shapes::{FeatureMap, Id};
 use std::alloc::Global;
 use std::test::Fail;
 use topo::Topology;
+use worked_maps::boxed;
 
 /// No layer, on another grid.
 pub(crate) const ON_SCALE_TWO: &str =
@@ -25,9 +26,9 @@ pub(crate) fn map_of(alloc: Global, text: &str) -> Result<FeatureMap, Fail> {
 }
 
 /// The topology of a text.
-pub(crate) fn topology_of(alloc: Global, text: &str) -> Result<Topology, Fail> {
+pub(crate) fn topology_of(alloc: Global, text: &str) -> Result<Box<Topology>, Fail> {
     let (grid, map) = topo_io::read(alloc, text.as_bytes())?;
-    Ok(Topology::build(alloc, &grid, &map)?)
+    boxed(alloc, Topology::build(alloc, &grid, &map))
 }
 
 /// Whether this is the text of a topology.

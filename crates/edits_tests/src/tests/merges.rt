@@ -13,6 +13,7 @@ use std::alloc::Global;
 use std::process::Abort;
 use std::test::Fail;
 use topo::Topology;
+use worked_maps::boxed;
 
 /// The bytes of texts.
 pub(crate) fn texts(alloc: Global, list: &[&str]) -> Result<Vec<Vec<u8>>, Fail> {
@@ -45,22 +46,24 @@ fn check_merged(
     Ok(())
 }
 
-fn text_of(alloc: Global, merged: Option<Topology>) -> Result<Option<Vec<u8>>, Fail> {
+fn text_of(alloc: Global, merged: Option<&Topology>) -> Result<Option<Vec<u8>>, Fail> {
     Ok(match merged {
-        Some(topology) => Some(topo_io::text_of(alloc, &topology)?),
+        Some(topology) => Some(topo_io::text_of(alloc, topology)?),
         None => None,
     })
 }
 
 /// The text of the topology of all texts of a list; none of no text.
 fn text_of_all(alloc: Global, list: &[&str]) -> Result<Option<Vec<u8>>, Fail> {
-    text_of(alloc, merge_topologies(alloc, texts(alloc, list)?)?)
+    let merged = boxed(alloc, merge_topologies(alloc, texts(alloc, list)?))?;
+    text_of(alloc, (*merged).as_ref())
 }
 
 /// The same of borrowed texts.
 fn text_of_borrowed(alloc: Global, list: &[&str]) -> Result<Option<Vec<u8>>, Fail> {
     let borrowed = borrow_bytes(alloc, list)?;
-    text_of(alloc, merge_borrowed_topologies(alloc, &borrowed)?)
+    let merged = boxed(alloc, merge_borrowed_topologies(alloc, &borrowed))?;
+    text_of(alloc, (*merged).as_ref())
 }
 
 /// Merges all texts of a list to a topology, owned and borrowed, and compares its text.
@@ -202,18 +205,21 @@ fn fault_of(alloc: Global, refusal: Refusal) -> MergeFault {
 
 fn check_refused(rt: &impl Abort, alloc: Global, row: &Refused) -> Result<(), Fail> {
     let plan = joined_to_first(alloc, row.leaves)?;
+    let list = texts(alloc, row.texts)?;
+    let fault = merge_texts(alloc, &list, &plan).err();
     let expected = Some(fault_of(alloc, row.refusal));
-    let fault = merge_texts(alloc, &texts(alloc, row.texts)?, &plan).err();
     assert!(rt; fault == expected, "{:?}", row.refusal);
     Ok(())
 }
 
 /// Refusals of merges of all texts of a list, for its texts alone.
 fn check_all_refused(rt: &impl Abort, alloc: Global, row: &Refused) -> Result<(), Fail> {
+    let list = texts(alloc, row.texts)?;
+    let borrowed = borrow_bytes(alloc, row.texts)?;
     let expected = Some(fault_of(alloc, row.refusal));
-    let fault = merge_topologies(alloc, texts(alloc, row.texts)?).err();
+    let fault = merge_topologies(alloc, list).err();
     assert!(rt; fault == expected, "{:?}: topology", row.refusal);
-    let fault = merge_borrowed_topologies(alloc, &borrow_bytes(alloc, row.texts)?).err();
+    let fault = merge_borrowed_topologies(alloc, &borrowed).err();
     assert!(rt;
         fault == expected,
         "{:?}: topology of borrowed texts",
@@ -257,11 +263,11 @@ fn check_joined(
     plan: &Plan,
     text: &str,
 ) -> Result<(), Fail> {
-    let joined = run_plan(alloc, shards, plan)?;
-    check_text(rt, alloc, &joined, text)?;
-    let copy = joined.copy(alloc)?;
+    let joined = boxed(alloc, run_plan(alloc, shards, plan))?;
+    check_text(rt, alloc, &*joined, text)?;
+    let copy = boxed(alloc, joined.copy(alloc))?;
     assert!(rt; copy.grid() == joined.grid());
-    check_text(rt, alloc, &copy, text)
+    check_text(rt, alloc, &*copy, text)
 }
 
 fn check_text(rt: &impl Abort, alloc: Global, shard: &Whole, text: &str) -> Result<(), Fail> {
@@ -348,9 +354,23 @@ fn are_joined_alike(
 ) -> Result<bool, Fail> {
     let plan = plan_of_number(alloc, number)?.ok_or("no plan")?;
     let merged = merge_texts(alloc, list, &plan)?;
-    let joined = run_plan(alloc, shards, &plan)?;
-    let alone = text_of_all(alloc, chosen(alloc, number)?.as_slice())?;
-    Ok(merged == joined.text(alloc)? && Some(merged) == alone)
+    let is_joined = is_joined(alloc, shards, &plan, merged.as_slice())?;
+    Ok(is_joined && is_merged_alone(alloc, number, merged.as_slice())?)
+}
+
+/// Whether the shard that a plan joins has a text.
+fn is_joined(alloc: Global, shards: &[Whole], plan: &Plan, text: &[u8]) -> Result<bool, Fail> {
+    let joined = boxed(alloc, run_plan(alloc, shards, plan))?;
+    Ok(joined.text(alloc)?.as_slice() == text)
+}
+
+/// Whether the texts that a number stands for are merged, as a list of these alone, to a text.
+fn is_merged_alone(alloc: Global, number: usize, text: &[u8]) -> Result<bool, Fail> {
+    let chosen = chosen(alloc, number)?;
+    match text_of_all(alloc, chosen.as_slice())? {
+        Some(merged) => Ok(merged.as_slice() == text),
+        None => Ok(false),
+    }
 }
 
 /// The texts of `FIVE` whose places a number stands for.

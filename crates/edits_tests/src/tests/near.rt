@@ -4,7 +4,7 @@ use shapes::{Feature, FeatureMap, Id, Items, Props, Shape};
 use std::alloc::Global;
 use std::test::Fail;
 use topo::Topology;
-use worked_maps::{positions, unit_grid};
+use worked_maps::{boxed, positions, unit_grid};
 
 /// A place of a feature: x, y and the feature's number.
 type Placed = (i64, i64, usize);
@@ -91,7 +91,8 @@ const ROWS: &[Row] = &[
 ];
 
 /// The topology of features, each with the points of its places; their ids are their numbers.
-fn topology(alloc: Global, features: &[&[(i64, i64)]]) -> Result<Topology, Fail> {
+fn topology(alloc: Global, features: &[&[(i64, i64)]]) -> Result<Box<Topology>, Fail> {
+    let grid = unit_grid()?;
     let mut map = FeatureMap::new(alloc);
     map.add_layer("a")?;
     for (number, places) in features.iter().enumerate() {
@@ -105,7 +106,7 @@ fn topology(alloc: Global, features: &[&[(i64, i64)]]) -> Result<Topology, Fail>
             },
         )?;
     }
-    Ok(Topology::build(alloc, &unit_grid()?, &map)?)
+    boxed(alloc, Topology::build(alloc, &grid, &map))
 }
 
 fn is_place(made: NearPlace, placed: Placed) -> bool {
@@ -122,7 +123,7 @@ fn are_pairs(made: &[(NearPlace, NearPlace)], pairs: &[(Placed, Placed)]) -> boo
 fn pairs_near_each_other(rt: HostRuntime) -> Result<(), Fail> {
     for (title, features, steps, pairs) in ROWS {
         let topology = topology(rt.alloc(), *features)?;
-        let found = near_vertices(rt.alloc(), &topology, *steps, 10)?;
+        let found = near_vertices(rt.alloc(), &*topology, *steps, 10)?;
         assert!(rt; found.count == pairs.len() as u128, "{title}: count");
         assert!(rt; are_pairs(found.first.as_slice(), *pairs), "{title}: pairs");
     }
@@ -132,8 +133,8 @@ fn pairs_near_each_other(rt: HostRuntime) -> Result<(), Fail> {
 #[test]
 fn no_more_than_are_asked_for(rt: HostRuntime) -> Result<(), Fail> {
     let topology = topology(rt.alloc(), &[&[(0, 0)], &[(0, 1)], &[(1, 0)]])?;
-    let two = near_vertices(rt.alloc(), &topology, 1, 2)?;
-    let none = near_vertices(rt.alloc(), &topology, 1, 0)?;
+    let two = near_vertices(rt.alloc(), &*topology, 1, 2)?;
+    let none = near_vertices(rt.alloc(), &*topology, 1, 0)?;
     assert!(rt; two.count == 3 && none.count == 3 && none.first.is_empty());
     assert!(rt;
         are_pairs(

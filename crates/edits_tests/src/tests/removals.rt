@@ -10,7 +10,7 @@ use refused_calls::texts::{
 use std::alloc::Global;
 use std::process::Abort;
 use std::test::Fail;
-use worked_maps::are_used;
+use worked_maps::{are_used, boxed};
 
 /// A topology, another one whose features are taken out, what is left, and for each of its arcs the
 /// indexes of the old ones.
@@ -101,45 +101,38 @@ fn are_pieces(made: &Removal, lists: &[&[i64]]) -> bool {
     made.pieces(lists.len()).is_none()
 }
 
-/// Whether what is left, lent and handed out, has this text.
-fn is_left(alloc: Global, made: Removal, text: &str) -> Result<bool, Fail> {
-    if !is_text_of(alloc, made.topology(), text)? {
-        return Ok(false);
-    }
-    is_text_of(alloc, &made.into_topology(), text)
+/// Whether what is left, as it is handed out, has this text.
+fn is_handed_out(alloc: Global, made: Box<Removal>, text: &str) -> Result<bool, Fail> {
+    is_text_of(alloc, &Box::into_inner(made).into_topology(), text)
 }
 
-fn removal(alloc: Global, row: &Row) -> Result<Removal, Fail> {
-    let topology = topology_of(alloc, row.topology)?;
+fn removal(alloc: Global, row: &Row) -> Result<Box<Removal>, Fail> {
     let removed = map_of(alloc, row.removed)?;
-    Ok(remove(alloc, &topology, &removed)?)
+    let topology = topology_of(alloc, row.topology)?;
+    boxed(alloc, remove(alloc, &*topology, &removed))
 }
 
 /// The same, where the features that are taken out are those of a topology.
-fn removal_by_topology(alloc: Global, row: &Row) -> Result<Result<Removal, JoinFault>, Fail> {
+fn removal_by_topology(alloc: Global, row: &Row) -> Result<Box<Removal>, Fail> {
     let topology = topology_of(alloc, row.topology)?;
     let removed = topology_of(alloc, row.removed)?;
-    Ok(remove_topology(alloc, &topology, &removed))
+    boxed(alloc, remove_topology(alloc, &*topology, &*removed))
 }
 
 /// What is left, lent and handed out, and the old arcs of each new one, are those of the row.
-fn assert_made<R: Abort + AllocGlobal>(rt: &R, made: Removal, row: &Row) -> Result<(), Fail> {
-    assert!(rt; are_pieces(&made, row.pieces), "{}: pieces", row.title);
-    let is_left = is_left(rt.alloc(), made, row.left)?;
-    assert!(rt; is_left, "{}", row.title);
+fn assert_made<R: Abort + AllocGlobal>(rt: &R, made: Box<Removal>, row: &Row) -> Result<(), Fail> {
+    assert!(rt; are_pieces(&*made, row.pieces), "{}: pieces", row.title);
+    let is_lent = is_text_of(rt.alloc(), made.topology(), row.left)?;
+    assert!(rt; is_lent, "{}", row.title);
+    let is_handed_out = is_handed_out(rt.alloc(), made, row.left)?;
+    assert!(rt; is_handed_out, "{}", row.title);
     Ok(())
 }
 
 /// By a map and by a topology.
 fn assert_row<R: Abort + AllocGlobal>(rt: &R, row: &Row) -> Result<(), Fail> {
     assert_made(rt, removal(rt.alloc(), row)?, row)?;
-    match removal_by_topology(rt.alloc(), row)? {
-        Ok(made) => assert_made(rt, made, row),
-        Err(fault) => {
-            assert!(rt; false, "{}: {fault}", row.title);
-            Ok(())
-        }
-    }
+    assert_made(rt, removal_by_topology(rt.alloc(), row)?, row)
 }
 
 #[test]
@@ -163,7 +156,7 @@ fn features_on_another_grid(rt: HostRuntime) -> Result<(), Fail> {
     let topology = topology_of(rt.alloc(), SHARED_EDGE)?;
     let other = topology_of(rt.alloc(), ON_ANOTHER_GRID)?;
     let is_refused = matches!(
-        remove_topology(rt.alloc(), &topology, &other),
+        remove_topology(rt.alloc(), &*topology, &*other),
         Err(JoinFault::OtherGrid)
     );
     assert!(rt; is_refused);

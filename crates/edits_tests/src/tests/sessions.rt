@@ -6,10 +6,10 @@ use refused_calls::texts::{FIRST, NO_LAYERS, SECOND, SHARED_EDGE};
 use std::alloc::Global;
 use std::process::Abort;
 use std::test::Fail;
-use worked_maps::unit_grid;
+use worked_maps::{boxed, unit_grid};
 
-fn start(alloc: Global) -> Result<Session, Fail> {
-    Ok(Session::start(alloc, &unit_grid()?)?)
+fn start(alloc: Global) -> Result<Box<Session>, Fail> {
+    boxed(alloc, Session::start(alloc, &unit_grid()?))
 }
 
 /// An edit, by the text of the topology that is joined or taken out.
@@ -21,7 +21,7 @@ enum Step {
 
 fn edit(alloc: Global, step: Step) -> Result<Edit, Fail> {
     match step {
-        Step::Join(text) => Ok(Edit::Join(topology_of(alloc, text)?)),
+        Step::Join(text) => Ok(Edit::Join(Box::into_inner(topology_of(alloc, text)?))),
         Step::Remove(text) => Ok(Edit::Remove(map_of(alloc, text)?)),
     }
 }
@@ -79,13 +79,19 @@ const ONE_BY_ONE: &[Row] = &[
     },
 ];
 
+/// What an edit of a session is refused for.
+fn applied(alloc: Global, session: &mut Session, step: Step) -> Result<Option<JoinFault>, Fail> {
+    let edit = edit(alloc, step)?;
+    Ok(session.apply(&edit).err())
+}
+
 fn assert_row(
     rt: &impl Abort,
     alloc: Global,
     session: &mut Session,
     row: &Row,
 ) -> Result<(), Fail> {
-    let fault = session.apply(&edit(alloc, row.step)?).err();
+    let fault = applied(alloc, session, row.step)?;
     assert!(rt; fault == row.fault, "{}", row.text);
     assert_text(rt, alloc, session, row.text)
 }
@@ -93,9 +99,9 @@ fn assert_row(
 #[test]
 fn edits_one_by_one(rt: HostRuntime) -> Result<(), Fail> {
     let mut session = start(rt.alloc())?;
-    assert_text(&rt, rt.alloc(), &session, NO_LAYERS)?;
+    assert_text(&rt, rt.alloc(), &*session, NO_LAYERS)?;
     for row in ONE_BY_ONE {
-        assert_row(&rt, rt.alloc(), &mut session, row)?;
+        assert_row(&rt, rt.alloc(), &mut *session, row)?;
     }
     Ok(())
 }
@@ -138,11 +144,11 @@ fn refusal(applied: Result<(), EditsFault>) -> Option<(usize, JoinFault)> {
 }
 
 fn assert_list(rt: &impl Abort, alloc: Global, list: &List) -> Result<(), Fail> {
-    let mut session = start(alloc)?;
     let edits = edits(alloc, list.steps)?;
+    let mut session = start(alloc)?;
     let fault = refusal(session.apply_all(edits.as_slice()));
     assert!(rt; fault == list.fault);
-    assert_text(rt, alloc, &session, list.text)
+    assert_text(rt, alloc, &*session, list.text)
 }
 
 #[test]

@@ -9,7 +9,7 @@ use shapes::{FeatureMap, Shape};
 use std::alloc::Global;
 use std::process::Abort;
 use std::test::Fail;
-use worked_maps::{FIRST, Places, SECOND, THIRD, insert, line, polygon, unit_grid};
+use worked_maps::{FIRST, Places, SECOND, THIRD, boxed, insert, line, polygon, unit_grid};
 
 const FROM_CORNER: &[(i64, i64)] = &[(1, 1), (2, 2)];
 
@@ -19,11 +19,24 @@ const CORNER: &str =
 /// How many squares each of some shards has.
 const COUNTS: &[i64] = &[1, 7, 1, 1, 3, 12, 2, 1, 1, 5, 9, 1, 4];
 
-/// The map of one layer with one feature.
-fn map_of(alloc: Global, layer: &str, shape: Shape) -> Result<FeatureMap, Fail> {
+/// The map of one layer without features.
+fn map_of(alloc: Global, layer: &str) -> Result<FeatureMap, Fail> {
     let mut map = FeatureMap::new(alloc);
     map.add_layer(layer)?;
-    insert(alloc, &mut map, layer, shape)?;
+    Ok(map)
+}
+
+/// The map of one layer with one square.
+fn map_of_square(alloc: Global, layer: &str, places: Places) -> Result<FeatureMap, Fail> {
+    let mut map = map_of(alloc, layer)?;
+    insert(alloc, &mut map, layer, polygon(alloc, places)?)?;
+    Ok(map)
+}
+
+/// The map of one layer with a line from a corner of the first square.
+fn map_of_line(alloc: Global, layer: &str) -> Result<FeatureMap, Fail> {
+    let mut map = map_of(alloc, layer)?;
+    insert(alloc, &mut map, layer, line(alloc, FROM_CORNER)?)?;
     Ok(map)
 }
 
@@ -44,7 +57,7 @@ fn is_joined<S: Shard>(
     text: &[u8],
 ) -> Result<bool, Fail> {
     let plan = plan_of(alloc, grouping, shards.len())?;
-    let joined = run_plan(alloc, shards, &plan)?;
+    let joined = boxed(alloc, run_plan(alloc, shards, &plan))?;
     Ok(joined.text(alloc)?.as_slice() == text)
 }
 
@@ -79,7 +92,7 @@ fn check_each_kind(
 fn squares(alloc: Global, rings: &[Places]) -> Result<Vec<FeatureMap>, Fail> {
     let mut maps = Vec::new(alloc);
     for places in rings {
-        maps.push(map_of(alloc, "a", polygon(alloc, *places)?)?)?;
+        maps.push(map_of_square(alloc, "a", *places)?)?;
     }
     Ok(maps)
 }
@@ -98,8 +111,8 @@ fn squares_in_a_row(rt: HostRuntime) -> Result<(), Fail> {
 /// A square twice in the layer `a`, once in the layer `b`, and beside that a line from a corner of it.
 fn squares_and_line(alloc: Global) -> Result<Vec<FeatureMap>, Fail> {
     let mut maps = squares(alloc, &[FIRST, FIRST])?;
-    maps.push(map_of(alloc, "b", polygon(alloc, FIRST)?)?)?;
-    maps.push(map_of(alloc, "b", line(alloc, FROM_CORNER)?)?)?;
+    maps.push(map_of_square(alloc, "b", FIRST)?)?;
+    maps.push(map_of_line(alloc, "b")?)?;
     Ok(maps)
 }
 
@@ -119,8 +132,7 @@ fn square(alloc: Global, left: i64) -> Result<Shape, Fail> {
 
 /// The map of squares in a row, from a place of it to another.
 fn row(alloc: Global, first: i64, end: i64) -> Result<FeatureMap, Fail> {
-    let mut map = FeatureMap::new(alloc);
-    map.add_layer("a")?;
+    let mut map = map_of(alloc, "a")?;
     for left in first..end {
         insert(alloc, &mut map, "a", square(alloc, left)?)?;
     }

@@ -14,13 +14,13 @@ ghost use Rattle.topo.specs.OfMap.{IsOf};
 
 use crate::difference_text::DifferenceOptions;
 use crate::difference_text::fault::DifferenceFault;
-use crate::difference_text::geometry::{GeometryChange, change_of_positions, is_turned, kind_of};
+use crate::difference_text::geometry::{GeometryChange, is_turned};
 use crate::difference_text::members::{MemberChange, member_changes};
-use crate::difference_text::positions::positions_of;
+use crate::difference_text::vertices::SharedArcs;
 use compare::{Changed, Comparison, LayerDifference, LayerPair, compare, property_text};
 use faults::OutOfMemory;
 use std::alloc::{AllocError, Global};
-use topo::{Body, Geom, Layer, Topology};
+use topo::{Geom, Layer, Topology};
 
 /// A feature that only one of two layers has: its number there, and the compact text of its key, where features pair
 /// by a property that it has.
@@ -192,6 +192,7 @@ fn changes_asked(
         return Err(OutOfMemory);
     };
     let pairs = pairs_asked(alloc, &comparison, options.layer)?;
+    let arcs = SharedArcs::of(alloc, &comparison, &pairs)?;
     let key = options.key;
     let mut layers = Vec::new(alloc);
     for pair in &pairs {
@@ -199,6 +200,7 @@ fn changes_asked(
             old,
             new,
             comparison: &comparison,
+            arcs: &arcs,
             pair: *pair,
             key,
         };
@@ -226,13 +228,14 @@ fn pairs_asked(
     Ok(pairs)
 }
 
-/// Two topologies, by their own arcs and by those of both, two of their layers, and the property by which features
-/// pair.
+/// Two topologies, by their own arcs and by those of both, these arcs, two of their layers, and the property by which
+/// features pair.
 #[derive(Clone, Copy)]
 struct BothLayers<'a> {
     old: &'a Topology,
     new: &'a Topology,
     comparison: &'a Comparison,
+    arcs: &'a SharedArcs<'a>,
     pair: LayerPair,
     key: Option<&'a str>,
 }
@@ -329,18 +332,12 @@ impl<'a> BothLayers<'a> {
         };
         change.key = self.key_of(alloc, old)?;
         change.members = member_changes(alloc, &old.props, &new.props)?;
-        change.geometry = self.geometry(alloc, pair, &old.body, &new.body)?;
+        change.geometry = self.geometry(alloc, pair)?;
         Ok(change)
     }
 
-    /// What differs between the geometries of two features, which are given by the arcs of their topologies.
-    fn geometry(
-        &self,
-        alloc: Global,
-        pair: Changed,
-        old_body: &Body,
-        new_body: &Body,
-    ) -> Result<Option<GeometryChange>, AllocError> {
+    /// What differs between the geometries of two features, by the arcs of both topologies.
+    fn geometry(&self, alloc: Global, pair: Changed) -> Result<Option<GeometryChange>, AllocError> {
         let olds = geometries_at(self.comparison.old_layers(), self.pair.old);
         let news = geometries_at(self.comparison.new_layers(), self.pair.new);
         let Some(old) = olds.get(pair.old) else {
@@ -355,10 +352,7 @@ impl<'a> BothLayers<'a> {
         if is_turned(&old.body, &new.body) {
             return Ok(Some(GeometryChange::Direction));
         }
-        let olds = positions_of(alloc, self.old, old_body)?;
-        let news = positions_of(alloc, self.new, new_body)?;
-        let is_of_one_kind = kind_of(old_body) == kind_of(new_body);
-        Ok(Some(change_of_positions(&olds, &news, is_of_one_kind)))
+        Ok(Some(self.arcs.change(alloc, &old.body, &new.body)?))
     }
 }
 

@@ -2,9 +2,7 @@
 ghost use Rattle.outputs.specs.DifferenceParts.{has_lines, kind_name};
 ghost use Rattle.std.specs.Prelude.{◌≡◌};
 
-use crate::difference_text::positions::count_missing;
 use chains::ArcRef;
-use grid::Pos;
 use lines::items::Items;
 use topo::Body;
 
@@ -17,20 +15,6 @@ pub enum GeometryChange {
     Order,
     /// How many vertices only the old one has, and only the new one; each vertex counts once.
     Vertices { gone: usize, new: usize },
-}
-
-/// What differs between two geometries that are not the same, by their positions, which are sorted, each once.
-pub(crate) fn change_of_positions(
-    olds: &[Pos],
-    news: &[Pos],
-    is_of_one_kind: bool,
-) -> GeometryChange {
-    let gone = count_missing(olds, news);
-    let new = count_missing(news, olds);
-    if gone == 0 && new == 0 && is_of_one_kind {
-        return GeometryChange::Order;
-    }
-    GeometryChange::Vertices { gone, new }
 }
 
 /// The kind of a geometry, by its name in GeoJSON.

@@ -2,7 +2,7 @@
 ghost use Rattle.faults.specs.Fault.{turn_of};
 ghost use Rattle.outputs.specs.FaultyFeatures.{as_id, faulty_feature, faulty_id, faulty_member, first_fraction, has_type, goes_into, steps_in_geojson, steps_in_topology, steps_to_feature, value_at, value_at_step};
 ghost use Rattle.serde_json.specs.View.{members_view, view};
-ghost use Rattle.std.specs.Prelude.{◌≡◌, ◌<◌, ◌≤◌, IfSome, IsTrue, length, map, option_map};
+ghost use Rattle.std.specs.Prelude.{◌≡◌, ◌<◌, ◌≤◌, IfSome, IsTrue, length, map, option_and_then, option_map};
 
 use faults::Step;
 use serde_json::{Map, Value};
@@ -101,12 +101,32 @@ fn steps_to_feature(format: Format, text: &Value, path: &[Step]) -> Option<usize
     }
 }
 
+/// The path to the feature that an error lies in, where it lies in one.
+fn feature_path<'p>(format: Format, text: &Value, path: &'p [Step]) -> Option<&'p [Step]>
+    ensures { option_and_then (λ p. value_at (map turn_of p.now) (view text.now)) result ≡ faulty_feature format (view text.now) (map turn_of path.now) }
+{
+    let steps = steps_to_feature(format, text, path)?;
+    Some(&path[..steps])
+}
+
 /// The feature that an error lies in, where it lies in one.
 fn feature_at<'v>(format: Format, text: &'v Value, path: &[Step]) -> Option<&'v Value>
     ensures { option_map (λ v. view v.now) result ≡ faulty_feature format (view text.now) (map turn_of path.now) }
 {
-    let steps = steps_to_feature(format, text, path)?;
-    at_path(text, path.get(..steps)?)
+    at_path(text, feature_path(format, text, path)?)
+}
+
+/// Whether the errors at two paths lie in one feature.
+pub(crate) fn is_one_feature(format: Format, text: &Value, one: &[Step], other: &[Step]) -> bool
+    ensures { IsTrue result → faulty_id format (view text.now) (map turn_of one.now) ≡ faulty_id format (view text.now) (map turn_of other.now) }
+{
+    let Some(one) = feature_path(format, text, one) else {
+        return false;
+    };
+    match feature_path(format, text, other) {
+        Some(other) => one == other,
+        None => false,
+    }
 }
 
 /// An id: a string or an integer of 64 bits.

@@ -2,15 +2,16 @@
 ghost use Rattle.faults.specs.Fault.{turn_of};
 ghost use Rattle.json.specs.Print.{quoted};
 ghost use Rattle.outputs.specs.FaultReports.{reported_fault};
-ghost use Rattle.outputs.specs.ReportsOfTexts.{IsPlaceIn, IsReadAs, IsReport, IsReportOf, named_member};
+ghost use Rattle.outputs.specs.ReportsOfTexts.{HasItsId, IsIdAt, IsPlaceIn, IsReadAs, IsReport, IsReportOf, named_member};
 ghost use Rattle.serde_json.specs.View.{view};
 ghost use Rattle.serde_json.specs.Written.{compact_text, has_float};
 ghost use Rattle.sinks.specs.PathText.PathText.{path_text};
 ghost use Rattle.std.specs.Prelude.{◌≡◌, All, IfOk, IfSome, false, map, option_map, string_bytes};
 
-use crate::fault_reports::features::{Format, id_at, member_at};
+use crate::fault_reports::features::{Format, id_at, is_one_feature, member_at};
 use crate::fault_reports::line_columns::{LineColumn, line_columns, place_at};
 use crate::fault_reports::places::places;
+use crate::fault_reports::shared_text::SharedText;
 use crate::fault_reports::unexpected::unexpected_token;
 use faults::{Fault, FaultKind, OutOfMemory, Step};
 use serde_json::Value;
@@ -25,19 +26,48 @@ pub struct FaultReport {
     pub place: LineColumn,
     /// Its path, as JSON.
     pub path: String,
-    /// The id of its feature, as JSON.
-    pub id: Option<String>,
+    /// The id of its feature, as JSON. Errors of one feature that follow one another share it.
+    pub id: Option<SharedText>,
     /// The name of the member of its properties, as JSON.
     pub member: Option<String>,
 }
 
-fn spell_id(alloc: Global, id: Option<&Value>) -> Result<Option<String>, OutOfMemory>
+/// An id as JSON.
+fn spell_id(alloc: Global, id: Option<&Value>) -> Result<Option<SharedText>, OutOfMemory>
     ensures { IfOk result (λ o. IfSome id.entry (λ v. has_float (view v.now) ≡ false) → option_map (λ s. string_bytes s) o ≡ option_map (λ v. compact_text (view v.now)) id.entry) }
 {
     match id {
-        Some(id) => Ok(Some(id.to_string(alloc)?)),
+        Some(id) => Ok(Some(SharedText::new(alloc, id.to_string(alloc)?)?)),
         None => Ok(None),
     }
+}
+
+/// The same id, with one owner more.
+fn share_id(id: &Option<SharedText>) -> Result<Option<SharedText>, OutOfMemory>
+    ensures { IfOk result (λ o. o ≡ id.now) }
+{
+    match id {
+        Some(id) => Ok(Some(id.share()?)),
+        None => Ok(None),
+    }
+}
+
+/// The id of the feature that an error lies in, as JSON: that of the last report, if that is of the same feature.
+fn id_behind(
+    alloc: Global,
+    format: Format,
+    text: &Value,
+    last: Option<&FaultReport>,
+    path: &[Step],
+) -> Result<Option<SharedText>, OutOfMemory>
+    ensures { IfOk result (λ o. IfSome last.entry (λ r. HasItsId format (view text.now) r.now) → IsIdAt format (view text.now) (map turn_of path.now) o) }
+{
+    if let Some(last) = last {
+        if is_one_feature(format, text, last.fault.path.as_slice(), path) {
+            return share_id(&last.id);
+        }
+    }
+    spell_id(alloc, id_at(format, text, path))
 }
 
 /// A text as JSON.
@@ -85,17 +115,19 @@ fn name_of<'v>(kind: FaultKind, text: &'v Value, path: &[Step]) -> Option<&'v st
     }
 }
 
+/// What is reported of an error behind the last report.
 fn report_of(
     alloc: Global,
     format: Format,
     text: &Value,
+    last: Option<&FaultReport>,
     fault: Fault,
     place: LineColumn,
 ) -> Result<FaultReport, OutOfMemory>
-    ensures { IfOk result (λ r. IsReportOf format (view text.now) fault place r) }
+    ensures { IfOk result (λ r. IfSome last.entry (λ l. HasItsId format (view text.now) l.now) → IsReportOf format (view text.now) fault place r) }
 {
     let path = fault.path.as_slice();
-    let id = spell_id(alloc, id_at(format, text, path))?;
+    let id = id_behind(alloc, format, text, last, path)?;
     let member = spell_name(alloc, name_of(fault.kind, text, path))?;
     let path = spell_path(alloc, path)?;
     Ok(FaultReport {
@@ -185,7 +217,8 @@ pub fn reports(
     let mut places = places.into_iter();
     for fault in faults {
         let place = places.next().unwrap_or(LineColumn::first());
-        reports.push(report_of(alloc, format, &value, fault, place)?)?;
+        let report = report_of(alloc, format, &value, reports.last(), fault, place)?;
+        reports.push(report)?;
     }
     Ok(reports)
 }

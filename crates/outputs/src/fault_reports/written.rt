@@ -10,6 +10,7 @@ use crate::fault_reports::counts::FaultCounts;
 use crate::fault_reports::more::write_more;
 use crate::fault_reports::remedies::remedy;
 use crate::fault_reports::report::FaultReport;
+use crate::fault_reports::shared_text::SharedText;
 use crate::text_parts::{Chars, Digits, If, Worded};
 use faults::FaultKind;
 use sinks::path_text::{KindNumber, write_path};
@@ -67,6 +68,21 @@ impl<'a> Written for LabelledText<'a> {
     }
 }
 
+/// An id behind a word, where there is one.
+#[derive(Clone, Copy)]
+struct LabelledId<'a>(&'a str, &'a Option<SharedText>);
+
+impl<'a> Written for LabelledId<'a> {
+    ghost text = { λ t. label_text t.0.now t.1.now };
+
+    fn write<W: Sink>(&self, sink: &mut W) -> Result<(), WriteFault> {
+        match self.1 {
+            Some(id) => Worded(self.0, Text(id.text().as_bytes())).write(sink),
+            None => Ok(()),
+        }
+    }
+}
+
 /// The file, the line and the column of an error.
 #[derive(Clone, Copy)]
 struct ReportPlace<'a>(&'a str, &'a FaultReport);
@@ -105,7 +121,7 @@ impl<'a> Written for ReportFeature<'a> {
     ghost text = { λ f. feature_text f.0.now };
 
     fn write<W: Sink>(&self, sink: &mut W) -> Result<(), WriteFault> {
-        let id = LabelledText(" id ", &self.0.id);
+        let id = LabelledId(" id ", &self.0.id);
         let member = LabelledText(" member ", &self.0.member);
         Then(id, Then(member, Text(b"\n"))).write(sink)
     }
@@ -271,7 +287,7 @@ impl<'a> Written for ObjectLine<'a> {
     ghost text = { λ l. object_line l.0.now };
 
     fn write<W: Sink>(&self, sink: &mut W) -> Result<(), WriteFault> {
-        let id = LabelledText(",\"id\":", &self.0.id);
+        let id = LabelledId(",\"id\":", &self.0.id);
         let line = Worded(",\"line\":", Digits(self.0.place.line));
         Then(id, Then(line, LabelledText(",\"member\":", &self.0.member))).write(sink)
     }

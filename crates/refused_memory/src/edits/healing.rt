@@ -7,6 +7,7 @@ use refused_calls::calls::Lent;
 use refused_calls::comparing::{are_used, same_arcs};
 use refused_calls::inputs::{built, is_of, positions};
 use refused_calls::outcome::Tally;
+use refused_calls::tables::both;
 use refused_calls::texts::{FIRST, Places, SHARED_EDGE};
 use refused_calls::{calls, layer};
 use std::alloc::Global;
@@ -47,17 +48,22 @@ fn heal_arcs_of(
 
 impl HealedMaps {
     fn with_maps(alloc: Global, two: Topology, fork: Topology) -> Option<HealedMaps> {
+        let square = heal_arcs_of(alloc, two.arcs(), FIRST_ARCS, &[]);
+        let line = heal_arcs_of(alloc, fork.arcs(), LINE_ARCS, LINE_ENDS);
+        let maps = both(built(alloc, FIRST), Some((two, fork)));
+        let ((square, line), (first, (two, fork))) = both(both(square, line), maps)?;
         Some(HealedMaps {
-            square: heal_arcs_of(alloc, two.arcs(), FIRST_ARCS, &[])?,
-            line: heal_arcs_of(alloc, fork.arcs(), LINE_ARCS, LINE_ENDS)?,
-            first: built(alloc, FIRST)?,
             two,
+            first,
             fork,
+            square,
+            line,
         })
     }
 
     fn of(alloc: Global) -> Option<HealedMaps> {
-        HealedMaps::with_maps(alloc, built(alloc, SHARED_EDGE)?, built(alloc, FORK)?)
+        let (two, fork) = both(built(alloc, SHARED_EDGE), built(alloc, FORK))?;
+        HealedMaps::with_maps(alloc, two, fork)
     }
 }
 

@@ -7,6 +7,7 @@ use refused_calls::calls::Lent;
 use refused_calls::comparing::{are_used, same_map};
 use refused_calls::inputs::{built, is_of, read};
 use refused_calls::outcome::{Answer, Tally};
+use refused_calls::tables::both;
 use refused_calls::texts::{
     EMPTY, ENDS, FIRST, FREE_LOOP, LINE, LOOP_AND_LINE, SECOND, SHARED_EDGE, THREE,
 };
@@ -67,10 +68,9 @@ struct Removing {
 
 impl Removing {
     fn of(alloc: Global, row: &'static Row) -> Option<Removing> {
-        let whole = built(alloc, row.whole)?;
-        let removed = read(alloc, row.removed)?;
-        let copy = removed.copy().ok()?;
-        let topology = built(alloc, row.removed)?;
+        let topologies = both(built(alloc, row.whole), built(alloc, row.removed));
+        let maps = both(read(alloc, row.removed), read(alloc, row.removed));
+        let ((whole, topology), (removed, copy)) = both(topologies, maps)?;
         Some(Removing {
             row,
             whole,

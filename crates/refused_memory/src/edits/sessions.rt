@@ -47,10 +47,17 @@ impl Edits {
     /// A session after so many of the edits.
     fn session_after(&self, alloc: Global, count: usize) -> Option<Session> {
         let mut session = Session::start(alloc, &self.grid).ok()?;
+        self.are_applied(&mut session, count).then_some(session)
+    }
+
+    /// Applies so many of the edits, and tells whether each was done.
+    fn are_applied(&self, session: &mut Session, count: usize) -> bool {
         for edit in self.list.as_slice().iter().take(count) {
-            session.apply(edit).ok()?;
+            if session.apply(edit).is_err() {
+                return false;
+            }
         }
-        Some(session)
+        true
     }
 }
 

@@ -11,6 +11,7 @@ use refused_calls::calls::Lent;
 use refused_calls::comparing::same_map;
 use refused_calls::inputs::{is_of, read};
 use refused_calls::outcome::{Answer, Tally};
+use refused_calls::tables::both;
 use refused_calls::texts::{FIRST, SECOND, SHARED_EDGE};
 use shapes::FeatureMap;
 use std::alloc::Global;
@@ -27,17 +28,25 @@ struct Pair<S> {
     plan: Plan,
 }
 
+fn plan_of_two(alloc: Global) -> Option<Plan> {
+    Plan::left(alloc, 2).ok()?
+}
+
 impl<S: Shard> Pair<S> {
     fn of(alloc: Global) -> Option<Pair<S>> {
         let grid = Grid::new(1, 1, 0, 0)?;
-        let map = read(alloc, FIRST)?;
+        let (map, copy) = both(read(alloc, FIRST), read(alloc, FIRST))?;
+        let left = S::from_map(alloc, &grid, &map).ok();
+        let right = S::of_text(alloc, SECOND.as_bytes()).ok();
+        let rest = both(plan_of_two(alloc), Some((map, copy)));
+        let ((left, right), (plan, (map, copy))) = both(both(left, right), rest)?;
         Some(Pair {
-            left: S::from_map(alloc, &grid, &map).ok()?,
-            right: S::of_text(alloc, SECOND.as_bytes()).ok()?,
-            copy: map.copy().ok()?,
-            plan: Plan::left(alloc, 2).ok()??,
+            left,
+            right,
             grid,
             map,
+            copy,
+            plan,
         })
     }
 }

@@ -9,6 +9,7 @@ use refused_calls::calls::Lent;
 use refused_calls::comparing::{are_lists_of, same_arcs};
 use refused_calls::inputs::{built, is_of, positions};
 use refused_calls::outcome::{Answer, Tally};
+use refused_calls::tables::both;
 use refused_calls::texts::{FREE_LOOP, LOOP_AND_LINE, SHARED_EDGE};
 use std::alloc::Global;
 use topo::Topology;
@@ -68,7 +69,8 @@ fn lists(alloc: Global, table: &ArcTable) -> Option<Vec<Items<Pos>>> {
 impl ArcsOfRow {
     fn of(alloc: Global, row: &'static Row) -> Option<ArcsOfRow> {
         let topology = built(alloc, row.topology)?;
-        let arcs = lists(alloc, topology.arcs())?;
+        let arcs = lists(alloc, topology.arcs());
+        let (topology, arcs) = both(Some(topology), arcs)?;
         Some(ArcsOfRow {
             row,
             topology,

@@ -5,6 +5,7 @@ use refused_calls::calls::Lent;
 use refused_calls::comparing::{are_used, same_arcs};
 use refused_calls::inputs::{built, is_of};
 use refused_calls::outcome::{Answer, Tally};
+use refused_calls::tables::both;
 use refused_calls::texts::{FREE_LOOP, LINE, LOOP_AND_LINE, SHARED_EDGE, THIRD, THREE};
 use split_arcs::{Recut, Side, recut};
 use std::alloc::Global;
@@ -51,11 +52,13 @@ struct Pair {
 
 impl Pair {
     fn of(alloc: Global, row: &'static Row) -> Option<Pair> {
+        let sides = both(built(alloc, row.left), built(alloc, row.right));
+        let ((left, right), whole) = both(sides, built(alloc, row.both))?;
         Some(Pair {
             row,
-            left: built(alloc, row.left)?,
-            right: built(alloc, row.right)?,
-            both: built(alloc, row.both)?,
+            left,
+            right,
+            both: whole,
         })
     }
 }

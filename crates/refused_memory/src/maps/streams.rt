@@ -9,6 +9,7 @@ use refused_calls::calls::Lent;
 use refused_calls::comparing::{are_arcs, same_map};
 use refused_calls::inputs::{built, is_of, read};
 use refused_calls::outcome::Tally;
+use refused_calls::tables::both;
 use refused_calls::texts::SHARED_EDGE;
 use shapes::{Feature, FeatureMap};
 use sinks::Tap;
@@ -55,10 +56,15 @@ pub(crate) struct Squares {
 
 impl Squares {
     fn with_map(alloc: Global, map: FeatureMap, topology: Topology) -> Option<Squares> {
-        let copy = map.copy().ok()?;
-        let longest = built(alloc, LARGEST_AND_LEAST)?;
-        let borders = query::mesh(alloc, &topology, None, |_: &Feature, _: &Feature| true).ok()?;
-        let neighbors = query::neighbors(alloc, &topology, "a").ok()?;
+        let copy = map.copy().ok();
+        let borders = query::mesh(alloc, &topology, None, |_: &Feature, _: &Feature| true).ok();
+        let neighbors = query::neighbors(alloc, &topology, "a").ok();
+        let topologies = both(Some(topology), built(alloc, LARGEST_AND_LEAST));
+        let answers = both(borders, neighbors);
+        let ((map, copy), ((topology, longest), (borders, neighbors))) = both(
+            both(Some(map), copy),
+            both(topologies, answers),
+        )?;
         Some(Squares {
             map,
             copy,
@@ -71,8 +77,7 @@ impl Squares {
 
     /// The two squares and the line; none where memory is wanting.
     pub(crate) fn of(alloc: Global) -> Option<Squares> {
-        let map = read(alloc, SHARED_EDGE)?;
-        let topology = built(alloc, SHARED_EDGE)?;
+        let (map, topology) = both(read(alloc, SHARED_EDGE), built(alloc, SHARED_EDGE))?;
         Squares::with_map(alloc, map, topology)
     }
 }

@@ -6,6 +6,7 @@ use refused_calls::calls::{Lent, change};
 use refused_calls::comparing::same_map;
 use refused_calls::inputs::read;
 use refused_calls::outcome::{Answer, Outcome, Tally};
+use refused_calls::tables::both;
 use refused_calls::texts::{FIRST, SECOND, SHARED_EDGE};
 use shapes::{Feature, FeatureMap, InsertFault};
 use std::alloc::Global;
@@ -31,16 +32,17 @@ fn with_layer(one: &FeatureMap) -> Option<FeatureMap> {
 impl Maps {
     fn of(alloc: Global) -> Option<Maps> {
         let one = read(alloc, FIRST)?;
-        let with_layer = with_layer(&one)?;
-        let other = read(alloc, SECOND)?;
-        let other_copy = read(alloc, SECOND)?;
-        let both = read(alloc, SHARED_EDGE)?;
+        let with_layer = with_layer(&one);
+        let others = both(read(alloc, SECOND), read(alloc, SECOND));
+        let rest = both(others, read(alloc, SHARED_EDGE));
+        let (ones, ((other, other_copy), squares)) = both(both(Some(one), with_layer), rest)?;
+        let (one, with_layer) = ones;
         Some(Maps {
             one,
             with_layer,
             other,
             other_copy,
-            both,
+            both: squares,
         })
     }
 

@@ -7,6 +7,7 @@ use refused_calls::calls::Lent;
 use refused_calls::comparing::same_map;
 use refused_calls::inputs::is_of;
 use refused_calls::outcome::Tally;
+use refused_calls::tables::both;
 use shapes::FeatureMap;
 use std::alloc::Global;
 use topo::Topology;
@@ -33,16 +34,13 @@ fn sources_of(alloc: Global, row: &Row) -> Option<Vec<(String, Vec<u8>)>> {
 }
 
 impl Worked {
-    fn with_map(
-        alloc: Global,
-        row: &'static Row,
-        grid: Grid,
-        map: FeatureMap,
-        topology: Topology,
-    ) -> Option<Worked> {
-        let copy = map.copy().ok()?;
-        let sources = sources_of(alloc, row)?;
-        let text = row.topology.as_bytes().to_vec(alloc).ok()?;
+    fn with_map(alloc: Global, row: &'static Row, grid: Grid, map: FeatureMap) -> Option<Worked> {
+        let text = row.topology.as_bytes().to_vec(alloc).ok();
+        let texts = both(sources_of(alloc, row), text);
+        let topology = Topology::build(alloc, &grid, &map).ok();
+        let copy = map.copy().ok();
+        let rest = both(topology, both(Some(map), copy));
+        let ((sources, text), (topology, (map, copy))) = both(texts, rest)?;
         Some(Worked {
             row,
             sources,
@@ -56,8 +54,7 @@ impl Worked {
 
     fn of(alloc: Global, row: &'static Row) -> Option<Worked> {
         let (grid, map) = topo_io::read(alloc, row.topology.as_bytes()).ok()?;
-        let topology = Topology::build(alloc, &grid, &map).ok()?;
-        Worked::with_map(alloc, row, grid, map, topology)
+        Worked::with_map(alloc, row, grid, map)
     }
 
     /// The GeoJSON text that is lent.

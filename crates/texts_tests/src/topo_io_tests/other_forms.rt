@@ -10,7 +10,7 @@ use std::test::Fail;
 use topo::Layer;
 use topo_io::read_parts;
 use validate::accept::{Accepted, TextArcs, layers_sorted, take};
-use worked_maps::rows;
+use worked_maps::{boxed, rows};
 
 /// The text of a topology on the unit grid with these arcs and these geometries, in the order in which
 /// topojson-server writes its members.
@@ -36,10 +36,8 @@ fn are_taken(alloc: Global, grid: Grid, arcs: &TextArcs, layers: &[Layer]) -> Re
     let layers = normalized.layers;
     let sorted = layers_sorted(alloc, &normalized.arcs, layers)?;
     let arcs = normalized.arcs.into_arcs(alloc)?;
-    match take(alloc, grid, arcs, sorted)? {
-        Accepted::Whole(_) => Ok(true),
-        Accepted::Not { .. } => Ok(false),
-    }
+    let accepted = boxed(alloc, take(alloc, grid, arcs, sorted))?;
+    Ok(matches!(*accepted, Accepted::Whole(_)))
 }
 
 /// Whether the arcs and the layers of a text are taken once they are without repeated positions, and normalized.

@@ -6,19 +6,20 @@ use std::test::Fail;
 use topo::Topology;
 use topo_io::{TextParts, map_of_parts, read_parts, text_of};
 use validate::accept::TextArcs;
-use worked_maps::rows;
+use worked_maps::{boxed, rows};
 
 /// The map of the text's parts, where they stitch.
 fn map_of(alloc: Global, text: &str) -> Result<Option<FeatureMap>, Fail> {
     let TextParts { arcs, layers, .. } = read_parts(alloc, text.as_bytes())?;
-    Ok(map_of_parts(alloc, &TextArcs::from_list(arcs), layers)?)
+    let arcs = Box::new(alloc, TextArcs::from_list(arcs))?;
+    Ok(map_of_parts(alloc, &*arcs, layers)?)
 }
 
 /// Whether a map, on the grid of the text, has the canonical text of what the whole text means.
 fn is_meant(alloc: Global, map: &FeatureMap, text: &str) -> Result<bool, Fail> {
     let grid = read_parts(alloc, text.as_bytes())?.grid;
-    let topology = Topology::build(alloc, &grid, map)?;
-    Ok(text_of(alloc, &topology)? == built_text(alloc, text)?)
+    let topology = boxed(alloc, Topology::build(alloc, &grid, map))?;
+    Ok(text_of(alloc, &*topology)? == built_text(alloc, text)?)
 }
 
 /// Whether the parts stitch to the map that the whole text means.

@@ -4,6 +4,7 @@ use std::alloc::Global;
 use std::test::Fail;
 use topo::Topology;
 use topo_io::{read, read_topology, text_of};
+use worked_maps::boxed;
 
 /// The text of a topology on the unit grid with these arcs and layers.
 macro_rules! topology {
@@ -56,21 +57,21 @@ pub(crate) const NO_LAYERS: &str =
     r#"{"arcs":[],"objects":{},"transform":{"scale":[1,1],"translate":[0,0]},"type":"Topology"}"#;
 
 /// The topology that is built of a text's features.
-pub(crate) fn built(alloc: Global, text: &str) -> Result<Topology, Fail> {
+pub(crate) fn built(alloc: Global, text: &str) -> Result<Box<Topology>, Fail> {
     let (grid, map) = read(alloc, text.as_bytes())?;
-    Ok(Topology::build(alloc, &grid, &map)?)
+    boxed(alloc, Topology::build(alloc, &grid, &map))
 }
 
 /// The canonical text of what is built of a text's features.
 pub(crate) fn built_text(alloc: Global, text: &str) -> Result<Vec<u8>, Fail> {
     let topology = built(alloc, text)?;
-    Ok(text_of(alloc, &topology)?)
+    Ok(text_of(alloc, &*topology)?)
 }
 
 /// Whether the topology of a text has the text that is built of the features of another, which may be the same.
 pub(crate) fn is_read_as_built(alloc: Global, text: &str, other: &str) -> Result<bool, Fail> {
-    let topology = read_topology(alloc, text.as_bytes())?;
-    Ok(text_of(alloc, &topology)? == built_text(alloc, other)?)
+    let topology = boxed(alloc, read_topology(alloc, text.as_bytes()))?;
+    Ok(text_of(alloc, &*topology)? == built_text(alloc, other)?)
 }
 
 /// Whether a text has a fault; want of memory is none.

@@ -44,8 +44,8 @@ fn has_whole(topology: &Topology, text: &str) -> bool {
 fn topologies_of_canonical_texts(rt: HostRuntime) -> Result<(), Fail> {
     for (title, text, others) in WRITTEN {
         let topology = built(rt.alloc(), *text)?;
-        assert!(rt; writes(rt.alloc(), &topology, *text), "{title}");
-        let has_it_alone = has_whole(&topology, *text) && !has_one_of(&topology, *others);
+        assert!(rt; writes(rt.alloc(), &*topology, *text), "{title}");
+        let has_it_alone = has_whole(&*topology, *text) && !has_one_of(&*topology, *others);
         assert!(rt; has_it_alone, "{title}: others");
     }
     Ok(())

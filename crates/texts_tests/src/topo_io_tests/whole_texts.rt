@@ -4,7 +4,7 @@ use std::alloc::Global;
 use std::test::Fail;
 use topo_io::{read_parts, read_topology, text_of};
 use validate::accept::{Accepted, take};
-use worked_maps::rows;
+use worked_maps::{boxed, rows};
 
 const LINES: &str =
     r#"{"arcs":[[[0,0],[1,0]],[[1,0],[0,1]],[[1,0],[1,0]]],"bbox":[0,0,2,1],"objects":{"a":{"geometries":[{"arcs":[0,2],"type":"LineString"},{"arcs":[1],"type":"LineString"}],"type":"GeometryCollection"}},"transform":{"scale":[1,1],"translate":[0,0]},"type":"Topology"}"#;
@@ -20,16 +20,14 @@ fn is_taken(alloc: Global, text: &str) -> Result<bool, Fail> {
     let Ok(parts) = read_parts(alloc, text.as_bytes()) else {
         return Err("refused".into());
     };
-    match take(alloc, parts.grid, parts.arcs, parts.layers)? {
-        Accepted::Whole(_) => Ok(true),
-        Accepted::Not { .. } => Ok(false),
-    }
+    let accepted = boxed(alloc, take(alloc, parts.grid, parts.arcs, parts.layers))?;
+    Ok(matches!(*accepted, Accepted::Whole(_)))
 }
 
 /// Whether a text's topology has the expected text.
 fn is_read_as(alloc: Global, text: &str, expected: &str) -> Result<bool, Fail> {
-    let topology = read_topology(alloc, text.as_bytes())?;
-    Ok(text_of(alloc, &topology)?.as_slice() == expected.as_bytes())
+    let topology = boxed(alloc, read_topology(alloc, text.as_bytes()))?;
+    Ok(text_of(alloc, &*topology)?.as_slice() == expected.as_bytes())
 }
 
 /// The text of `collection!` with two geometries of a kind, by the lists of arcs of each.

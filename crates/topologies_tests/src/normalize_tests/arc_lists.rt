@@ -1,11 +1,12 @@
 //! Lists of arcs, and what is told of them as a line's and as a ring's, without their positions being
 //! put together.
+use chains::ArcRef;
 use lines::shape_fault::ShapeFault;
 use normalize::arc_lists::{ArcLists, ListVerdict};
 use std::alloc::Global;
 use std::test::Fail;
 use validate::accept::TextArcs;
-use worked_maps::{Places, lists, refs_of};
+use worked_maps::{Places, are_used, lists, refs_of};
 
 /// Arcs, a list of indexes, and what is told of it.
 #[derive(Clone, Copy)]
@@ -146,11 +147,20 @@ const ROWS: &[Row] = &[
     },
 ];
 
+fn has_verdicts(
+    alloc: Global,
+    lists: &ArcLists<'_>,
+    used: &[ArcRef],
+    row: &Row,
+) -> Result<bool, Fail> {
+    Ok(lists.line(alloc, used)? == row.line && lists.ring(alloc, used)? == row.ring)
+}
+
 fn is_told(alloc: Global, row: &Row) -> Result<bool, Fail> {
-    let arcs = TextArcs::from_list(lists(alloc, row.arcs)?);
-    let lists = ArcLists::new(alloc, &arcs)?;
+    let arcs = Box::new(alloc, TextArcs::from_list(lists(alloc, row.arcs)?))?;
     let used = refs_of(alloc, row.list)?;
-    Ok(lists.line(alloc, &used)? == row.line && lists.ring(alloc, &used)? == row.ring)
+    let lists = ArcLists::new(alloc, &*arcs)?;
+    has_verdicts(alloc, &lists, &used, row)
 }
 
 #[test]
@@ -162,20 +172,16 @@ fn verdicts_of_lists(rt: HostRuntime) -> Result<(), Fail> {
 }
 
 /// The list of a row without the arcs that have no segment.
-fn without_points(alloc: Global, row: &Row) -> Result<Vec<usize>, Fail> {
-    let arcs = TextArcs::from_list(lists(alloc, row.arcs)?);
-    let lists = ArcLists::new(alloc, &arcs)?;
+fn without_points(alloc: Global, row: &Row) -> Result<Vec<ArcRef>, Fail> {
+    let arcs = Box::new(alloc, TextArcs::from_list(lists(alloc, row.arcs)?))?;
     let used = refs_of(alloc, row.list)?;
-    let mut numbers = Vec::new(alloc);
-    for arc in &lists.without_points(alloc, &used)? {
-        numbers.push(arc.arc)?;
-    }
-    Ok(numbers)
+    let lists = ArcLists::new(alloc, &*arcs)?;
+    Ok(lists.without_points(alloc, &used)?)
 }
 
 #[test]
 fn points_left_out(rt: HostRuntime) -> Result<(), Fail> {
-    let numbers = without_points(rt.alloc(), &WITH_POINTS)?;
-    assert!(rt; numbers.as_slice() == [0, 1].as_slice());
+    let left = without_points(rt.alloc(), &WITH_POINTS)?;
+    assert!(rt; are_used(&left, &[0, 1]));
     Ok(())
 }

@@ -10,7 +10,7 @@ use std::alloc::Global;
 use std::test::Fail;
 use topo::{Body, Geom, Layer};
 use validate::accept::TextArcs;
-use worked_maps::{lists, refs_of};
+use worked_maps::{boxed, boxed_some, lists, refs_of};
 
 /// Lists of used arcs by their indexes.
 pub(crate) type Lists = &'static [&'static [i64]];
@@ -57,8 +57,8 @@ fn body(alloc: Global, listed: &Listed) -> Result<Body, Fail> {
 }
 
 fn geometry(alloc: Global, listed: &Listed) -> Result<Geom, Fail> {
-    let body = body(alloc, listed)?;
     let props = Props::empty(alloc)?;
+    let body = body(alloc, listed)?;
     Ok(Geom {
         id: Id::Number(7),
         props,
@@ -81,8 +81,8 @@ pub(crate) fn layers_of(alloc: Global, layers: Layers) -> Result<Vec<Layer>, Fai
     Ok(made)
 }
 
-pub(crate) fn text_arcs(alloc: Global, arcs: Arcs) -> Result<TextArcs, Fail> {
-    Ok(TextArcs::from_list(lists(alloc, arcs)?))
+pub(crate) fn text_arcs(alloc: Global, arcs: Arcs) -> Result<Box<TextArcs>, Fail> {
+    Ok(Box::new(alloc, TextArcs::from_list(lists(alloc, arcs)?))?)
 }
 
 /// What comes of arcs and layers.
@@ -90,8 +90,14 @@ pub(crate) fn normalize_layers(
     alloc: Global,
     arcs: &TextArcs,
     layers: Layers,
-) -> Result<Option<Normalized>, Fail> {
-    Ok(normalize(alloc, arcs, &layers_of(alloc, layers)?)?)
+) -> Result<Option<Box<Normalized>>, Fail> {
+    let layers = layers_of(alloc, layers)?;
+    boxed_some(alloc, normalize(alloc, arcs, &layers))
+}
+
+fn is_body(alloc: Global, made: &Body, listed: &Listed) -> Result<bool, Fail> {
+    let expected = Box::new(alloc, body(alloc, listed)?)?;
+    Ok(*made == *expected)
 }
 
 /// Whether a layer has the one geometry of a body.
@@ -100,7 +106,7 @@ fn is_layer(alloc: Global, layer: &Layer, name: &str, listed: &Listed) -> Result
         return Ok(false);
     };
     let is_named = layer.name().text() == name && geometry.id == Id::Number(7);
-    Ok(is_named && geometry.body == body(alloc, listed)?)
+    Ok(is_named && is_body(alloc, &geometry.body, listed)?)
 }
 
 /// Whether these are the arcs.
@@ -118,8 +124,9 @@ pub(crate) fn left_without(
     alloc: Global,
     arcs: &TextArcs,
     layers: Layers,
-) -> Result<Option<WithoutRepeats>, Fail> {
-    Ok(without_repeats(alloc, arcs, &layers_of(alloc, layers)?)?)
+) -> Result<Option<Box<WithoutRepeats>>, Fail> {
+    let layers = layers_of(alloc, layers)?;
+    boxed_some(alloc, without_repeats(alloc, arcs, &layers))
 }
 
 /// Whether these arcs and layers are left.
@@ -148,6 +155,7 @@ pub(crate) fn is_made(
     arcs: Arcs,
     layers: Layers,
 ) -> Result<bool, Fail> {
-    let made_arcs = made.arcs.copy(alloc)?.into_arcs(alloc)?;
+    let copy = boxed(alloc, made.arcs.copy(alloc))?;
+    let made_arcs = Box::into_inner(copy).into_arcs(alloc)?;
     Ok(made_arcs == lists(alloc, arcs)? && are_layers(alloc, &made.layers, layers)?)
 }

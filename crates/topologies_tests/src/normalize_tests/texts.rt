@@ -174,7 +174,7 @@ const ROWS: &[Row] = &[
 /// Whether the arcs, and the layers of a row, make what the row says.
 fn makes(alloc: Global, arcs: &TextArcs, row: &Row) -> Result<bool, Fail> {
     match normalize_layers(alloc, arcs, row.layers)? {
-        Some(made) => is_made(alloc, &made, row.made_arcs, row.made_layers),
+        Some(made) => is_made(alloc, &*made, row.made_arcs, row.made_layers),
         None => Ok(false),
     }
 }
@@ -183,7 +183,7 @@ fn makes(alloc: Global, arcs: &TextArcs, row: &Row) -> Result<bool, Fail> {
 fn texts_normalized(rt: HostRuntime) -> Result<(), Fail> {
     for row in ROWS {
         let arcs = text_arcs(rt.alloc(), row.arcs)?;
-        assert!(rt; makes(rt.alloc(), &arcs, row)?, "{}", row.title);
+        assert!(rt; makes(rt.alloc(), &*arcs, row)?, "{}", row.title);
     }
     Ok(())
 }
@@ -218,11 +218,11 @@ const REPEATS: &[Row] = &[
 fn repeated_positions_are_dropped(rt: HostRuntime) -> Result<(), Fail> {
     for row in REPEATS {
         let arcs = text_arcs(rt.alloc(), row.arcs)?;
-        let Some(left) = left_without(rt.alloc(), &arcs, row.layers)? else {
+        let Some(left) = left_without(rt.alloc(), &*arcs, row.layers)? else {
             return Err(row.title.into());
         };
         assert!(rt;
-            is_left(rt.alloc(), &left, row.made_arcs, row.made_layers)?,
+            is_left(rt.alloc(), &*left, row.made_arcs, row.made_layers)?,
             "{}",
             row.title
         );
@@ -233,12 +233,12 @@ fn repeated_positions_are_dropped(rt: HostRuntime) -> Result<(), Fail> {
 #[test]
 fn arcs_that_repeat_no_position_stay(rt: HostRuntime) -> Result<(), Fail> {
     let arcs = text_arcs(rt.alloc(), SQUARES)?;
-    assert!(rt; left_without(rt.alloc(), &arcs, SQUARE_LAYERS)?.is_none());
+    assert!(rt; left_without(rt.alloc(), &*arcs, SQUARE_LAYERS)?.is_none());
     Ok(())
 }
 
 /// A loop's arc and ring of a table. From A the loop goes to D and to B; backwards to B first.
-const TABLED: Row = Row {
+const TABLED: &Row = &Row {
     title: "arcs of a table",
     arcs: &[&[D, B, A, D]],
     layers: &[("a", Listed::Polygon(&[&[0]]))],
@@ -246,9 +246,9 @@ const TABLED: Row = Row {
     made_layers: &[("a", Listed::Polygon(&[&[0]]))],
 };
 
-fn table_arcs(alloc: Global, arcs: Arcs) -> Result<TextArcs, Fail> {
+fn table_arcs(alloc: Global, arcs: Arcs) -> Result<Box<TextArcs>, Fail> {
     match ArcTable::from_sorted(alloc, lists(alloc, arcs)?, &[])? {
-        Some(table) => Ok(TextArcs::from_table(table)),
+        Some(table) => Ok(Box::new(alloc, TextArcs::from_table(table))?),
         None => Err("out of order".into()),
     }
 }
@@ -256,6 +256,6 @@ fn table_arcs(alloc: Global, arcs: Arcs) -> Result<TextArcs, Fail> {
 #[test]
 fn arcs_of_a_table(rt: HostRuntime) -> Result<(), Fail> {
     let arcs = table_arcs(rt.alloc(), TABLED.arcs)?;
-    assert!(rt; makes(rt.alloc(), &arcs, &TABLED)?, "{}", TABLED.title);
+    assert!(rt; makes(rt.alloc(), &*arcs, TABLED)?, "{}", TABLED.title);
     Ok(())
 }

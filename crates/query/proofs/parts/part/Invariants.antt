@@ -1,9 +1,0 @@
-use Rattle.std.proofs.Common.{◌≡◌, ◌++◌, drop, map}
-use Rattle.query.specs.Parting.{wholes, others}
-use Rattle.query.proofs.parts.part.Given as goal
-
-abbrev pub invariant-loop-number : goal.invariant-loop-number
-invariant-loop-number l = record {
-  whole : map (λ c. c.items) l.parts.whole.items ++ wholes l.fn.stops.keys l.fn.arcs.arcs (drop l.number-index l.fn.chosen) ≡ wholes l.fn.stops.keys l.fn.arcs.arcs l.fn.chosen;
-  joined : l.parts.joined.items ++ others l.fn.stops.keys l.fn.arcs.arcs (drop l.number-index l.fn.chosen) ≡ others l.fn.stops.keys l.fn.arcs.arcs l.fn.chosen;
-}
