@@ -82,10 +82,10 @@ pub ids_memory : (t : TopologyParts) (name : List ℕ) (is_keyed : Bool) → IsI
 ids_memory t name is_keyed = inl refl
 
 pub id_missing : (t : TopologyParts) (name : List ℕ) (is_keyed : Bool) (gs : List Geom) → IsOfLayerNamed t.layers name gs → lacks_id gs ≡ true → IsIdsRefusal t name is_keyed NoId
-id_missing t name is_keyed gs named lacks = inr (inr (refl, inl (gs, (named, lacks))))
+id_missing t name is_keyed gs named lacks = inr (inr (refl, inl (gs, named, lacks)))
 
 pub key_twice : (t : TopologyParts) (name : List ℕ) (is_keyed : Bool) (gs : List Geom) → IsOfLayerNamed t.layers name gs → (is_keyed && has_key_twice gs) ≡ true → IsIdsRefusal t name is_keyed NoId
-key_twice t name is_keyed gs named twice = inr (inr (refl, inr (gs, (named, twice))))
+key_twice t name is_keyed gs named twice = inr (inr (refl, inr (gs, named, twice)))
 
 some_form : (n : ℕ) → (n ≡ 0 → ⊥) → 1 ≤ n
 some_form zero h = absurd (h refl)

@@ -78,7 +78,7 @@ like_memory u like = inl refl
 -- why a text gives no transform, as a refusal
 pub like_refusal : (u : Measure) (l like : List ℕ) → l ≡ like → (e : TransformFault) → ((e ≡ faulty.OutOfMemory → ⊥) → IsTransformFault u (text_numerals l) e) → (f : Fault) → ((IsWant f → ⊥) → pair_of f ≡ like_fault e) → (r : CallRefusal) →
     IsFaultAt 1 f r → IsLikeRefusal u like r
-like_refusal u l like same e why f is (Text i g) (at, (one, some)) =
+like_refusal u l like same e why f is (Text i g) (at, one, some) =
     let pair = is some in
     inr (f, (λ j. Text (at j) (one j), (e, (subst (λ x. IsTransformFault u (text_numerals x) e) same (why (λ m. some (ap (λ p. p.kind) (pair ∙ ap like_fault m)))), pair))))
 like_refusal u l like same e why f is OutOfMemory h = inl refl
