@@ -64,7 +64,7 @@ enum noshinka_status {
     /* Of noshinka_check alone: the text is not canonical. */
     NOSHINKA_NOT_CANONICAL = 1,
     /* The grid, the step or the unit is outside its limits, the name at `place` is not UTF-8, a number is none of its choices,
-     * options have another size, or ids are asked for and a feature has none. */
+     * options have another size, or ids are asked for and a feature has none, or as names of members one that another has. */
     NOSHINKA_USAGE = 2,
     /* The text at `place` is refused for `fault`. The path of the fault is the first `length` bytes of the room; if
      * `length` is more than the room has, the room is unchanged. Faults 17 to 19 have no path. */
@@ -248,7 +248,7 @@ noshinka_outcome noshinka_mesh(const noshinka_mesh_options *options, const uint8
                                uint8_t *room, size_t size);
 
 /* What neighbours are answered as: places from 0, ids, which each feature then needs, or one object from each id to a list of ids,
- * where an id that comes twice in the layer comes twice. */
+ * where no other feature of the layer may have it, nor its number as a text. */
 enum noshinka_lists { NOSHINKA_PLACES = 0, NOSHINKA_IDS = 1, NOSHINKA_KEYED_IDS = 2 };
 
 /* Which neighbours count: all, or those whose values of a property differ. */
@@ -294,6 +294,65 @@ noshinka_outcome noshinka_diff(const noshinka_diff_options *options, const uint8
 
 /* The grid, the bounding box and counts of a topology: as lines, or as JSON if `json` is 1. */
 noshinka_outcome noshinka_info(const uint8_t *text, size_t length, uint32_t json, uint8_t *room, size_t size);
+
+/* Which decimal texts of properties become numbers again (togrid --back --numbers): none, those of columns, or those of named properties. */
+enum noshinka_numbers { NOSHINKA_NUMBERS_STAY = 0, NOSHINKA_NUMBERS_COLUMNS = 1, NOSHINKA_NUMBERS_NAMED = 2 };
+
+/* On which transform a topology is written: its own times the unit, that of another topology, or that of so many numbers along each axis. */
+enum noshinka_transform { NOSHINKA_TRANSFORM_OWN = 0, NOSHINKA_TRANSFORM_LIKE = 1, NOSHINKA_TRANSFORM_COUNT = 2 };
+
+/* The options of togrid --back, as docs/TOGRID.md has them. */
+typedef struct noshinka_back_options {
+    size_t size;
+    /* --unit, a decimal number without a sign. If it is empty, it is 0.000001. */
+    noshinka_bytes unit;
+    /* --like: the text of another topology (place 1), whose numbers may be decimal, if `transform` is NOSHINKA_TRANSFORM_LIKE. */
+    noshinka_bytes like;
+    /* --numbers=P,Q: the properties, if `numbers` is NOSHINKA_NUMBERS_NAMED. */
+    const noshinka_bytes *properties;
+    size_t property_count;
+    /* --reals scale:PROPERTY=K: whole numbers of the property are divided by the power of ten; of one name the first counts. */
+    const noshinka_scale *scales;
+    size_t scale_count;
+    /* --quantize N: 2 to 2^40, if `transform` is NOSHINKA_TRANSFORM_COUNT. */
+    uint64_t count;
+    /* One of noshinka_numbers, of noshinka_transform and of noshinka_rewind. */
+    uint32_t numbers;
+    uint32_t transform;
+    uint32_t rewind;
+} noshinka_back_options;
+
+/* What a list of no bytes points to. */
+static const noshinka_bytes noshinka_no_bytes = NOSHINKA_NO_BYTES;
+
+#define NOSHINKA_BACK_OPTIONS \
+    {sizeof(noshinka_back_options), NOSHINKA_NO_BYTES, NOSHINKA_NO_BYTES, &noshinka_no_bytes, 0, &noshinka_no_scale, 0, 0, \
+     NOSHINKA_NUMBERS_STAY, NOSHINKA_TRANSFORM_OWN, NOSHINKA_REWIND_D3}
+
+/* A topology (place 0) in the unit of the map again, as `togrid --back` prints it: for other tools, since no call here takes a
+ * fraction. Both texts may begin with a byte order mark. A unit of too many digits is NOSHINKA_USAGE. */
+noshinka_outcome noshinka_back(const noshinka_back_options *options, const uint8_t *text, size_t length,
+                               uint8_t *room, size_t size);
+
+typedef struct noshinka_quality_options {
+    size_t size;
+    /* 1: which features have no id, and which one that occurs more than once in their layer. */
+    uint32_t ids;
+    /* 1 to 100 steps of the grid: which vertices of different features are so near each other. 0: not asked. */
+    uint32_t near;
+    /* How many of those pairs are listed at most. */
+    uint32_t listed;
+} noshinka_quality_options;
+
+#define NOSHINKA_QUALITY_OPTIONS {sizeof(noshinka_quality_options), 0, 0, 10}
+
+/* What `topotool check --ids --near` finds in a topology's text, as a JSON object of three members. `canonical` is what noshinka_check
+ * tells. `ids` is a list with an object for each layer: the name `layer`, and in the lists `missing` and `repeated` the places from 0 of
+ * the features without an id, and of those whose id others of the layer have too. `near` has the `count` of all pairs, and the first
+ * `pairs` by their positions: lists of two positions, x and y in the numbers of GeoJSON. What is not asked for is null. The status is 0
+ * whatever is found. */
+noshinka_outcome noshinka_quality(const noshinka_quality_options *options, const uint8_t *text, size_t length,
+                                  uint8_t *room, size_t size);
 
 /* The name of the fault with a number, as docs/FAULTS.md has it: `NotJson` for 1. Other numbers than 1 to 21 are NOSHINKA_USAGE. */
 noshinka_outcome noshinka_fault_name(uint32_t fault, uint8_t *room, size_t size);

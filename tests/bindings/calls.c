@@ -37,6 +37,13 @@
 #define IN_ONES SNAPPED("{\"coordinates\":[604550,199784],\"type\":\"Point\"}")
 #define IN_FOURS SNAPPED("{\"coordinates\":[604552,199784],\"type\":\"Point\"}")
 #define COLLAPSED SNAPPED("null")
+/* OF_LEFT in units, its ring clockwise as its arc is, on a transform, with a bounding box and an arc. */
+#define LEFT_BACK(transform, bbox, arc) \
+    "{\"type\":\"Topology\",\"transform\":{\"scale\":" transform ",\"translate\":[0,0]},\"bbox\":" bbox ",\"objects\":{\"a\":{\"type\":" \
+    "\"GeometryCollection\",\"geometries\":[{\"type\":\"Polygon\",\"arcs\":[[0]]}]}},\"arcs\":[" arc "]}"
+/* Half an absolute 1 is a step of it. */
+#define HALVES "{\"transform\":{\"translate\":[0,0],\"scale\":[0.5,0.5]},\"type\":\"Topology\"}"
+#define COUNTED "{\"type\":\"Feature\",\"properties\":{\"p\":\"1.5\",\"q\":13},\"geometry\":{\"type\":\"Point\",\"coordinates\":[3,4]}}"
 #define NOTHING "{\"features\":[],\"type\":\"FeatureCollection\"}"
 
 static long looked, wrong;
@@ -94,7 +101,7 @@ static int is(noshinka_outcome outcome, uint32_t status, uint32_t fault, size_t 
 }
 
 /* The calls that answer with a text, so that each is tried in the same rooms. */
-enum { BUILD, MERGE, REMOVE, FEATURE, MESH, MESH_OF_LAYER, MESH_BY, NEIGHBORS, NEIGHBORS_BY, NEIGHBOR_IDS, KEYED, ROUND, ROUND_BUILD, REPORT, EDIT, DIFF, FAULTS, FAULT_NAME, INFO, CALLS };
+enum { BUILD, MERGE, REMOVE, FEATURE, MESH, MESH_OF_LAYER, MESH_BY, NEIGHBORS, NEIGHBORS_BY, NEIGHBOR_IDS, KEYED, ROUND, ROUND_BUILD, REPORT, EDIT, BACK, BACK_LIKE, BACK_COUNT, BACK_NUMBERS, QUALITY, QUALITY_UNASKED, DIFF, FAULTS, FAULT_NAME, INFO, CALLS };
 
 static const char *answers[CALLS] = {
     BOTH,
@@ -113,6 +120,15 @@ static const char *answers[CALLS] = {
     OF_DEGREES,
     REPORT_OF_DEGREES OF_DEGREES,
     OF_LEFT,
+    LEFT_BACK("[0.000001,0.000001]", "[0,0,0.000001,0.000001]", "[[0,0],[0,1],[1,0],[0,-1],[-1,0]]"),
+    LEFT_BACK("[0.5,0.5]", "[0,0,1,1]", "[[0,0],[0,2],[2,0],[0,-2],[-2,0]]"),
+    LEFT_BACK("[0.5,0.5]", "[0,0,1,1]", "[[0,0],[0,2],[2,0],[0,-2],[-2,0]]"),
+    "{\"type\":\"Topology\",\"transform\":{\"scale\":[0.000001,0.000001],\"translate\":[0,0]},\"bbox\":[0.000003,0.000004,0.000003,0.000004],"
+    "\"objects\":{\"a\":{\"type\":\"GeometryCollection\",\"geometries\":[{\"properties\":{\"p\":1.5,\"q\":0.13},\"type\":\"Point\","
+    "\"coordinates\":[3,4]}]}},\"arcs\":[]}",
+    "{\"canonical\":true,\"ids\":[{\"layer\":\"a\",\"missing\":[0],\"repeated\":[1,2]},{\"layer\":\"b\",\"missing\":[],\"repeated\":[]}],"
+    "\"near\":{\"count\":3,\"pairs\":[[[10,10],[20,10]],[[20,10],[30,20]]]}}",
+    "{\"canonical\":false,\"ids\":null,\"near\":null}",
     "+ \"a\" null {}\n1 added, 0 removed, 0 changed\n",
     "[{\"column\":48,\"id\":7,\"line\":2,\"name\":\"NotTwo\",\"number\":16,\"path\":\"$/geometry/coordinates/0\"},\n"
     "{\"column\":55,\"id\":7,\"line\":2,\"name\":\"NotWhole\",\"number\":5,\"path\":\"$/geometry/coordinates/1/1\"},\n"
@@ -121,18 +137,21 @@ static const char *answers[CALLS] = {
     "grid: 1,1,0,0\nbbox: 0,0,1,1\narcs: 1\npositions of arcs: 5\nfree loops: 1\nlayer \"a\": 1 feature, 1 Polygon\n",
 };
 
-/* The topology of two squares with ids, which are values of a property too. */
-static noshinka_bytes with_ids(void) {
+/* The topology of two features in a layer. */
+static noshinka_bytes built(const char *one, const char *other) {
     noshinka_grid grid = {1, 1, 0, 0};
     noshinka_source sources[2];
     noshinka_bytes made;
     uint8_t *room = block(4096);
-    sources[0] = source("a", NAMED("7", LEFT));
-    sources[1] = source("a", NAMED("\"e\"", RIGHT));
+    sources[0] = source("a", one);
+    sources[1] = source("a", other);
     made.at = room;
     made.length = noshinka_build(&grid, sources, 2, room, 4096).length;
     return made;
 }
+
+/* That of two squares with ids, which are values of a property too. */
+static noshinka_bytes with_ids(void) { return built(NAMED("7", LEFT), NAMED("\"e\"", RIGHT)); }
 
 static noshinka_outcome mesh(noshinka_bytes text, uint32_t scope, const char *layer, uint32_t edges, const char *property, uint8_t *room, size_t size) {
     noshinka_mesh_options options = NOSHINKA_MESH_OPTIONS;
@@ -179,9 +198,56 @@ static noshinka_outcome round_one(const char *text, const char *step, uint32_t f
     return noshinka_round(&options, &one, 1, room, size);
 }
 
+/* On the unit 1: on its own transform, on that of a text, or of so many numbers. */
+static noshinka_outcome back(noshinka_bytes text, const char *unit, uint32_t transform, const char *like, uint64_t number, uint8_t *room, size_t size) {
+    noshinka_back_options options = NOSHINKA_BACK_OPTIONS;
+    options.unit = bytes(unit);
+    options.transform = transform;
+    options.like = bytes(like);
+    options.count = number;
+    return noshinka_back(&options, text.at, text.length, room, size);
+}
+
+/* With a text that becomes a number, and a whole number that is divided by so many tens. */
+static noshinka_outcome numbers_back(const char *property, uint32_t numbers, uint32_t zeros, uint8_t *room, size_t size) {
+    noshinka_grid grid = {1, 1, 0, 0};
+    noshinka_back_options options = NOSHINKA_BACK_OPTIONS;
+    noshinka_scale scale = {NOSHINKA_NO_BYTES, 0};
+    noshinka_source one = source("a", COUNTED);
+    noshinka_bytes name = bytes(property);
+    uint8_t *text = block(4096);
+    size_t length = noshinka_build(&grid, &one, 1, text, 4096).length;
+    scale.property = bytes("q");
+    scale.zeros = zeros;
+    options.scales = &scale;
+    options.properties = &name;
+    options.scale_count = options.property_count = 1;
+    options.numbers = numbers;
+    return noshinka_back(&options, text, length, room, size);
+}
+
+/* Of points on a grid of tens, two of which have one id, and one has none. */
+static noshinka_outcome quality(uint32_t ids, uint32_t near, uint32_t listed, uint8_t *room, size_t size) {
+    noshinka_grid grid = {10, 10, 0, 0};
+    noshinka_quality_options options = NOSHINKA_QUALITY_OPTIONS;
+    noshinka_source sources[4];
+    uint8_t *text = block(4096);
+    size_t length;
+    sources[0] = source("a", NAMED("7", "{\"type\":\"Point\",\"coordinates\":[10,10]}"));
+    sources[1] = source("a", NAMED("7", "{\"type\":\"Point\",\"coordinates\":[90,10]}"));
+    sources[2] = source("a", "{\"type\":\"Point\",\"coordinates\":[20,10]}");
+    sources[3] = source("b", NAMED("7", "{\"type\":\"MultiPoint\",\"coordinates\":[[30,20],[80,0]]}"));
+    length = noshinka_build(&grid, sources, 4, text, 4096).length;
+    options.ids = ids;
+    options.near = near;
+    options.listed = listed;
+    return noshinka_quality(&options, text, length, room, size);
+}
+
 static noshinka_outcome call(int which, uint8_t *room, size_t size) {
     noshinka_grid grid = {1, 1, 0, 0};
     noshinka_source sources[2];
+    noshinka_quality_options unasked = NOSHINKA_QUALITY_OPTIONS;
     noshinka_bytes texts[3], of_left = bytes(OF_LEFT), both = bytes(BOTH), name = bytes("a"), faulty;
     noshinka_outcome right;
     switch (which) {
@@ -229,6 +295,19 @@ static noshinka_outcome call(int which, uint8_t *room, size_t size) {
         texts[0].at = block(4096);
         texts[0].length = noshinka_build(&grid, sources, 1, (uint8_t *)texts[0].at, 4096).length;
         return edit(texts[0], of_left, NOSHINKA_TAKE, texts[0], room, size);
+    case BACK:
+        return back(of_left, "", NOSHINKA_TRANSFORM_OWN, "", 0, room, size);
+    case BACK_LIKE:
+        return back(bytes("\xef\xbb\xbf" OF_LEFT), "1", NOSHINKA_TRANSFORM_LIKE, "\xef\xbb\xbf" HALVES, 0, room, size);
+    case BACK_COUNT:
+        return back(of_left, "1", NOSHINKA_TRANSFORM_COUNT, "", 3, room, size);
+    case BACK_NUMBERS:
+        return numbers_back("p", NOSHINKA_NUMBERS_NAMED, 2, room, size);
+    case QUALITY:
+        return quality(1, 1, 2, room, size);
+    case QUALITY_UNASKED:
+        faulty = bytes(BOTH "\n");
+        return noshinka_quality(&unasked, faulty.at, faulty.length, room, size);
     case FAULTS:
         faulty = bytes(FAULTY);
         return noshinka_faults(faulty.at, faulty.length, NOSHINKA_GEOJSON, &grid, room, size);
@@ -298,6 +377,10 @@ static void look_at_faults(void) {
     LOOK(is(mesh(both, 0, "", NOSHINKA_BY_PROPERTY, "\xff", room, 4096), NOSHINKA_USAGE, 0, 0, 0));
     LOOK(is(neighbors(both, "a", NOSHINKA_IDS, 0, "", room, 4096), NOSHINKA_USAGE, 0, 0, 0));
     LOOK(is(neighbors(both, "a", NOSHINKA_KEYED_IDS, 0, "", room, 4096), NOSHINKA_USAGE, 0, 0, 0));
+    LOOK(is(neighbors(built(NAMED("7", LEFT), NAMED("7", RIGHT)), "a", NOSHINKA_KEYED_IDS, 0, "", room, 4096), NOSHINKA_USAGE, 0, 0, 0));
+    LOOK(is(neighbors(built(NAMED("7", LEFT), NAMED("\"7\"", RIGHT)), "a", NOSHINKA_KEYED_IDS, 0, "", room, 4096), NOSHINKA_USAGE, 0, 0, 0));
+    LOOK(is(neighbors(built(NAMED("7", LEFT), NAMED("7", RIGHT)), "a", NOSHINKA_IDS, 0, "", room, 4096), NOSHINKA_DONE, 0, 0, 9));
+    LOOK(memcmp(room, "[[7],[7]]", 9) == 0);
     LOOK(is(neighbors(both, "a", 3, 0, "", room, 4096), NOSHINKA_USAGE, 0, 0, 0));
     LOOK(is(neighbors(both, "a", 0, 2, "", room, 4096), NOSHINKA_USAGE, 0, 0, 0));
     LOOK(is(neighbors(both, "a", 0, NOSHINKA_NEIGHBORS_BY, "\xff", room, 4096), NOSHINKA_USAGE, 0, 0, 0));
@@ -374,6 +457,59 @@ static void look_at_steps(void) {
     release();
 }
 
+static void look_at_back(void) {
+    noshinka_bytes both = bytes(BOTH), none = bytes("{}");
+    noshinka_back_options options = NOSHINKA_BACK_OPTIONS;
+    uint8_t *room = block(4096);
+    LOOK(is(back(none, "", NOSHINKA_TRANSFORM_OWN, "", 0, room, 4096), NOSHINKA_REFUSED, 2, 0, 6));
+    LOOK(memcmp(room, "$/type", 6) == 0);
+    LOOK(is(back(none, "", NOSHINKA_TRANSFORM_COUNT, "", 2, room, 4096), NOSHINKA_REFUSED, 2, 0, 6));
+    LOOK(is(back(none, "", NOSHINKA_TRANSFORM_LIKE, HALVES, 0, room, 4096), NOSHINKA_REFUSED, 2, 0, 6));
+    LOOK(is(back(both, "", NOSHINKA_TRANSFORM_LIKE, "{", 0, room, 4096), NOSHINKA_REFUSED, 1, 1, 1));
+    LOOK(memcmp(room, "$", 1) == 0);
+    LOOK(is(back(both, "", NOSHINKA_TRANSFORM_LIKE, "{}", 0, room, 4096), NOSHINKA_REFUSED, 4, 1, 6));
+    LOOK(memcmp(room, "$/type", 6) == 0);
+    LOOK(is(back(both, "", NOSHINKA_TRANSFORM_LIKE, "{\"type\":\"Topology\"}", 0, room, 4096), NOSHINKA_REFUSED, 15, 1, 11));
+    LOOK(memcmp(room, "$/transform", 11) == 0);
+    LOOK(is(back(both, "", NOSHINKA_TRANSFORM_LIKE, "{\"type\":\"Topology\",\"transform\":{}}", 0, room, 4096), NOSHINKA_REFUSED, 16, 1, 11));
+    LOOK(is(back(both, "", NOSHINKA_TRANSFORM_LIKE, "{\"type\":\"Topology\",\"transform\":{\"scale\":[0,1],\"translate\":[0,0]}}", 0, room, 4096), NOSHINKA_REFUSED, 6, 1, 11));
+    LOOK(is(back(both, "", NOSHINKA_TRANSFORM_LIKE, "{\"type\":\"Topology\",\"transform\":{\"scale\":[1e-40,1],\"translate\":[0,0]}}", 0, room, 4096), NOSHINKA_REFUSED, 6, 1, 11));
+    LOOK(is(back(none, "", NOSHINKA_TRANSFORM_LIKE, "{}", 0, room, 4096), NOSHINKA_REFUSED, 4, 1, 6));
+    LOOK(is(back(both, "1e-30", NOSHINKA_TRANSFORM_OWN, "", 0, room, 0), NOSHINKA_ROOM, 21, 0, back(both, "1e-30", NOSHINKA_TRANSFORM_OWN, "", 0, room, 4096).length));
+    LOOK(is(back(both, "1e-31", NOSHINKA_TRANSFORM_OWN, "", 0, room, 4096), NOSHINKA_USAGE, 0, 0, 0));
+    LOOK(is(back(both, "1e-19", NOSHINKA_TRANSFORM_COUNT, "", 2, room, 4096), NOSHINKA_USAGE, 0, 0, 0));
+    LOOK(is(back(both, "-1", NOSHINKA_TRANSFORM_OWN, "", 0, room, 4096), NOSHINKA_USAGE, 0, 0, 0));
+    LOOK(is(back(both, "1", NOSHINKA_TRANSFORM_COUNT, "", 1, room, 4096), NOSHINKA_USAGE, 0, 0, 0));
+    LOOK(is(back(both, "1", NOSHINKA_TRANSFORM_COUNT, "", (uint64_t)1 << 40, room, 4096), NOSHINKA_DONE, 0, 0, back(both, "1", NOSHINKA_TRANSFORM_COUNT, "", (uint64_t)1 << 40, room, 4096).length));
+    LOOK(is(back(both, "1", NOSHINKA_TRANSFORM_COUNT, "", ((uint64_t)1 << 40) + 1, room, 4096), NOSHINKA_USAGE, 0, 0, 0));
+    LOOK(is(back(both, "1", 3, "", 2, room, 4096), NOSHINKA_USAGE, 0, 0, 0));
+    LOOK(is(numbers_back("\xff", NOSHINKA_NUMBERS_NAMED, 2, room, 4096), NOSHINKA_USAGE, 0, 0, 0));
+    LOOK(numbers_back("\xff", NOSHINKA_NUMBERS_COLUMNS, 2, room, 4096).status == NOSHINKA_DONE);
+    LOOK(is(numbers_back("p", 3, 2, room, 4096), NOSHINKA_USAGE, 0, 0, 0));
+    LOOK(is(numbers_back("p", NOSHINKA_NUMBERS_NAMED, 13, room, 4096), NOSHINKA_USAGE, 0, 0, 0));
+    options.rewind = 3;
+    LOOK(is(noshinka_back(&options, both.at, both.length, room, 4096), NOSHINKA_USAGE, 0, 0, 0));
+    options.rewind = NOSHINKA_REWIND_KEEP;
+    LOOK(noshinka_back(&options, both.at, both.length, room, 4096).status == NOSHINKA_DONE);
+    options.size = 8;
+    LOOK(is(noshinka_back(&options, both.at, both.length, room, 4096), NOSHINKA_USAGE, 0, 0, 0));
+    release();
+}
+
+static void look_at_quality(void) {
+    noshinka_bytes none = bytes("{}");
+    noshinka_quality_options options = NOSHINKA_QUALITY_OPTIONS;
+    uint8_t *room = block(4096);
+    LOOK(is(noshinka_quality(&options, none.at, none.length, room, 4096), NOSHINKA_REFUSED, 2, 0, 6));
+    LOOK(memcmp(room, "$/type", 6) == 0);
+    LOOK(is(quality(2, 0, 0, room, 4096), NOSHINKA_USAGE, 0, 0, 0));
+    LOOK(is(quality(0, 101, 0, room, 4096), NOSHINKA_USAGE, 0, 0, 0));
+    LOOK(quality(0, 100, 0, room, 4096).status == NOSHINKA_DONE);
+    options.size = 8;
+    LOOK(is(noshinka_quality(&options, none.at, none.length, room, 4096), NOSHINKA_USAGE, 0, 0, 0));
+    release();
+}
+
 static void look_at_check(void) {
     noshinka_bytes both = bytes(BOTH), other = bytes(BOTH "\n");
     uint8_t *room = block(8);
@@ -389,6 +525,8 @@ int main(void) {
     for (which = 0; which < CALLS; which++) look_at_rooms(which);
     look_at_faults();
     look_at_steps();
+    look_at_back();
+    look_at_quality();
     look_at_check();
     printf("calls: %ld looked at, %ld wrong\n", looked, wrong);
     return wrong != 0;

@@ -35,7 +35,7 @@ void __wrap_free(void *old) {
     __real_free(old);
 }
 
-enum { SIZE = 1 << 16, CALLS = 22 };
+enum { SIZE = 1 << 16, CALLS = 26 };
 static uint8_t room[SIZE], kept[SIZE], map[SIZE];
 static size_t length;
 
@@ -106,6 +106,28 @@ static noshinka_outcome edit(void) {
     return noshinka_edit(map, length, changes, 2, room, SIZE);
 }
 
+/* With one property named, and one divided. */
+static noshinka_outcome back(uint32_t transform, const char *like) {
+    noshinka_back_options options = NOSHINKA_BACK_OPTIONS;
+    noshinka_scale scale = {NOSHINKA_NO_BYTES, 1};
+    noshinka_bytes name = bytes("x");
+    scale.property = bytes("y");
+    options.scales = &scale;
+    options.properties = &name;
+    options.scale_count = options.property_count = 1;
+    options.numbers = NOSHINKA_NUMBERS_NAMED;
+    options.transform = transform;
+    options.like = bytes(like);
+    return noshinka_back(&options, map, length, room, SIZE);
+}
+
+static noshinka_outcome quality(void) {
+    noshinka_quality_options options = NOSHINKA_QUALITY_OPTIONS;
+    options.ids = 1;
+    options.near = 2;
+    return noshinka_quality(&options, map, length, room, SIZE);
+}
+
 static noshinka_outcome list_faults(const char *text, uint32_t format) {
     noshinka_grid grid = {1, 1, 0, 0};
     return noshinka_faults((const uint8_t *)text, strlen(text), format, &grid, room, SIZE);
@@ -136,6 +158,10 @@ static noshinka_outcome call(int which) {
     case 18: return neighbors(NOSHINKA_KEYED_IDS, 0);
     case 19: return edit();
     case 20: return noshinka_fault_name(13, room, SIZE);
+    case 21: return back(NOSHINKA_TRANSFORM_OWN, "");
+    case 22: return back(NOSHINKA_TRANSFORM_LIKE, "{\"type\":\"Topology\",\"transform\":{\"scale\":[0.5,0.25],\"translate\":[0,1e1]}}");
+    case 23: return back(NOSHINKA_TRANSFORM_LIKE, "{\"type\":\"Topology\",\"transform\":{\"scale\":[0.5,0],\"translate\":[0,1e1]}}");
+    case 24: return quality();
     default: return noshinka_merge(texts, 1, room, 3);
     }
 }

@@ -9,9 +9,12 @@
 #include <string.h>
 
 enum { SIZE = 1 << 16, SQUARES = 40, MOST = 16 };
-static uint8_t map[SIZE], right[SIZE];
-static size_t length, right_length;
+static uint8_t map[SIZE], right[SIZE], web[SIZE];
+static size_t length, right_length, web_length;
 static noshinka_neighbors_options lists = NOSHINKA_NEIGHBORS_OPTIONS;
+static noshinka_back_options thousand = NOSHINKA_BACK_OPTIONS;
+static noshinka_quality_options tests = NOSHINKA_QUALITY_OPTIONS;
+static const char good[] = "{\"canonical\":true,\"ids\":null,\"near\":null}";
 static const char degrees[] = "{\"type\":\"Point\",\"coordinates\":[7.4386325,46.9510827]}",
     snapped[] = "{\"features\":[{\"geometry\":{\"coordinates\":[7438633,46951083],\"type\":\"Point\"},\"properties\":{},\"type\":\"Feature\"}],"
                 "\"type\":\"FeatureCollection\"}";
@@ -52,6 +55,10 @@ static void *run(void *nothing) {
         same &= edited.status == NOSHINKA_DONE && edited.length == length && !memcmp(room, map, length);
         noshinka_outcome rounded = noshinka_round(&options, &source, 1, room, SIZE);
         same &= rounded.status == NOSHINKA_DONE && rounded.length == strlen(snapped) && !memcmp(room, snapped, strlen(snapped));
+        noshinka_outcome written = noshinka_back(&thousand, map, length, room, SIZE);
+        same &= written.status == NOSHINKA_DONE && written.length == web_length && !memcmp(room, web, web_length);
+        noshinka_outcome tested = noshinka_quality(&tests, map, length, room, SIZE);
+        same &= tested.status == NOSHINKA_DONE && tested.length == strlen(good) && !memcmp(room, good, strlen(good));
     }
     free(room);
     return (void *)same;
@@ -65,6 +72,9 @@ int main(int count, char **words) {
     if (of > MOST) return 2;
     length = build(map).length;
     right_length = noshinka_neighbors(&lists, map, length, (const uint8_t *)"a", 1, right, SIZE).length;
+    thousand.transform = NOSHINKA_TRANSFORM_COUNT;
+    thousand.count = 1000;
+    web_length = noshinka_back(&thousand, map, length, web, SIZE).length;
     for (n = 0; n < of; n++)
         if (pthread_create(&threads[n], NULL, run, NULL)) return 2;
     for (n = 0; n < of; n++) {

@@ -1,22 +1,23 @@
 -- Refusals and answers of the parts of a question, as those of the question.
-use Rattle.std.proofs.Common.{◌≡◌, ◌≤◌, ◌↔◌, ◌⊎◌, ℕ, zero, suc, List, Option, Result, Some, Err, ap, arith, if◌then◌else◌, inl, inr, ne_eqb, refl, subst, sym, false, nat_eq}
+use Rattle.std.proofs.Common.{◌≡◌, ◌≤◌, ◌↔◌, ◌&&◌, ℕ, Bool, zero, suc, List, Option, Result, Some, Err, ap, arith, if◌then◌else◌, inl, inr, ne_eqb, refl, subst, sym, false, true, nat_eq}
 use Rattle.query.specs.Mesh.{IsMissing}
 use Rattle.query.specs.declared.edges.Edges.{Edges}
 use Rattle.query.specs.declared.fault.QueryFault.{QueryFault}
 use Rattle.query.specs.declared.fault.QueryFault.TheVariants as query
 use Rattle.topo.specs.ItsMap.{ForItsMap}
 use Rattle.query.specs.AnswerTexts.{neighbors_text}
-use Rattle.topo.specs.Parts.{TopologyParts}
+use Rattle.topo.specs.Parts.{IsOfLayerNamed, TopologyParts}
 use Rattle.topo.specs.declared.geom.Geom.{Geom}
 use Rattle.topo_io.specs.Means.{MeansTopology}
 use Rattle.noshinka.proofs.PartRefusals.{choice_question, layer_question, scope_question, text_question}
-use Rattle.noshinka.specs.Asking.{IsBordersText, IsListsRefusal, IsListsText, IsMeshRefusal, IsMeshText, IsNeighborsAnswer, IsNeighborsRefusal, are_neighbors_choices, by_of, ids_text, layer_of, lists_text}
-use Rattle.noshinka.specs.Options.{edges_of, name_if}
+use Rattle.noshinka.specs.Asking.{AreWithIds, HasMeshChoices, IsBordersText, IsIdsRefusal, IsListsRefusal, IsListsText, IsMeshRefusal, IsMeshText, IsNeighborsAnswer, IsNeighborsRefusal, are_neighbors_choices, by_of, ids_text, layer_of, lists_text}
+use Rattle.noshinka.specs.Keys.{has_key_twice}
+use Rattle.noshinka.specs.Options.{edges_of, lacks_id, name_if}
 use Rattle.noshinka.specs.Why.{IsBadName, IsBadNameIf, IsChoiceRefusal, IsLayerRefusal, IsScopeRefusal, IsTextRefusal, of_query}
 use Rattle.noshinka.specs.declared.questions.MeshOptions.{MeshOptions}
 use Rattle.noshinka.specs.declared.questions.NeighborsOptions.{NeighborsOptions}
 use Rattle.noshinka.specs.declared.refusal.CallRefusal.{CallRefusal}
-use Rattle.noshinka.specs.declared.refusal.CallRefusal.TheVariants.{BadChoice}
+use Rattle.noshinka.specs.declared.refusal.CallRefusal.TheVariants.{BadChoice, NoId, OutOfMemory}
 
 pub mesh_size : (o : MeshOptions) (text : List ℕ) → (o.size ≡ 48 → ⊥) → IsMeshRefusal o text BadChoice
 mesh_size o text h = inr (inl h)
@@ -36,9 +37,10 @@ mesh_text_refused o text r h = inr (text_question _ text (layer_of o) r h)
 pub mesh_layer : (o : MeshOptions) (text : List ℕ) (t : TopologyParts) → MeansTopology text t → (scope : Option (List ℕ)) → scope ≡ layer_of o → (r : CallRefusal) → IsLayerRefusal t scope r → IsMeshRefusal o text r
 mesh_layer o text t means scope e r h = inr (layer_question _ text (layer_of o) t means r (subst (λ s. IsLayerRefusal t s r) e h))
 
-pub mesh_answer : (o : MeshOptions) (text t : List ℕ) (whole : TopologyParts) → MeansTopology text whole → {scope by : Option (List ℕ)} {edges : Edges} → scope ≡ layer_of o → by ≡ by_of o → edges ≡ edges_of o.edges →
+pub mesh_answer : (o : MeshOptions) (text t : List ℕ) (whole : TopologyParts) → HasMeshChoices o → MeansTopology text whole → {scope by : Option (List ℕ)} {edges : Edges} → scope ≡ layer_of o → by ≡ by_of o → edges ≡ edges_of o.edges →
     IsBordersText whole scope by edges t → IsMeshText o text t
-mesh_answer o text t whole means {scope} {by} {edges} e f g is = record {
+mesh_answer o text t whole chosen means {scope} {by} {edges} e f g is = record {
+  chosen = chosen;
   topology = whole;
   means = means;
   borders = subst (λ x. IsBordersText whole (layer_of o) (by_of o) x t) g (subst (λ x. IsBordersText whole (layer_of o) x edges t) f (subst (λ x. IsBordersText whole x by edges t) e is));
@@ -63,13 +65,37 @@ neighbors_text_refused o text name r h = inr (inr (inr (inl h)))
 pub neighbors_lists : (o : NeighborsOptions) (text name : List ℕ) (t : TopologyParts) → MeansTopology text t → (n : List ℕ) → n ≡ name → (r : CallRefusal) → IsListsRefusal t n o.lists r → IsNeighborsRefusal o text name r
 neighbors_lists o text name t means n e r h = inr (inr (inr (inr (t, (means, subst (λ x. IsListsRefusal t x o.lists r) e h)))))
 
-pub neighbors_answer : (o : NeighborsOptions) (text name t : List ℕ) (whole : TopologyParts) → MeansTopology text whole → {n : List ℕ} {by : Option (List ℕ)} → n ≡ name → by ≡ name_if (nat_eq o.kind 1) o.property.now →
+pub neighbors_answer : (o : NeighborsOptions) (text name t : List ℕ) (whole : TopologyParts) → are_neighbors_choices o ≡ true → MeansTopology text whole → {n : List ℕ} {by : Option (List ℕ)} → n ≡ name → by ≡ name_if (nat_eq o.kind 1) o.property.now →
     IsListsText whole n by o.lists t → IsNeighborsAnswer o text name t
-neighbors_answer o text name t whole means {n} {by} e f is = record {
+neighbors_answer o text name t whole chosen means {n} {by} e f is = record {
+  chosen = chosen;
   topology = whole;
   means = means;
   lists = subst (λ x. IsListsText whole name x o.lists t) f (subst (λ x. IsListsText whole x by o.lists t) e is);
 }
+
+-- geometries whose ids are there, and serve
+pub with_ids : (t : TopologyParts) (name : List ℕ) (is_keyed : Bool) (gs : List Geom) → IsOfLayerNamed t.layers name gs → lacks_id gs ≡ false → (is_keyed && has_key_twice gs) ≡ false → AreWithIds t name is_keyed gs
+with_ids t name is_keyed gs named ids keys = record { layer = named; ids = ids; keys = keys }
+
+pub ids_memory : (t : TopologyParts) (name : List ℕ) (is_keyed : Bool) → IsIdsRefusal t name is_keyed OutOfMemory
+ids_memory t name is_keyed = inl refl
+
+pub id_missing : (t : TopologyParts) (name : List ℕ) (is_keyed : Bool) (gs : List Geom) → IsOfLayerNamed t.layers name gs → lacks_id gs ≡ true → IsIdsRefusal t name is_keyed NoId
+id_missing t name is_keyed gs named lacks = inr (inr (refl, inl (gs, named, lacks)))
+
+pub key_twice : (t : TopologyParts) (name : List ℕ) (is_keyed : Bool) (gs : List Geom) → IsOfLayerNamed t.layers name gs → (is_keyed && has_key_twice gs) ≡ true → IsIdsRefusal t name is_keyed NoId
+key_twice t name is_keyed gs named twice = inr (inr (refl, inr (gs, named, twice)))
+
+some_form : (n : ℕ) → (n ≡ 0 → ⊥) → 1 ≤ n
+some_form zero h = absurd (h refl)
+some_form (suc n) h = omega arith
+
+-- why there are no such geometries, where lists by ids are asked for
+pub ids_refused : (t : TopologyParts) (name : List ℕ) (form : ℕ) → (form ≡ 0 → ⊥) → (r : CallRefusal) → IsIdsRefusal t name (nat_eq form 2) r → IsListsRefusal t name form r
+ids_refused t name form some r (inl e) = inl e
+ids_refused t name form some r (inr (inl h)) = inr (inl h)
+ids_refused t name form some r (inr (inr (e, h))) = inr (inr (e, (some_form form some, h)))
 
 -- by places for 0
 pub by_places : (form : ℕ) (gs : List Geom) (lists : List (List ℕ)) → form ≡ 0 → neighbors_text lists ≡ lists_text form gs lists

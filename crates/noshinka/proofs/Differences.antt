@@ -1,12 +1,12 @@
 -- Refusals of the parts of a difference, as refusals of the difference.
-use Rattle.std.proofs.Common.{◌≡◌, ◌↔◌, ◌≤◌, ◌∙◌, ℕ, Bool, List, Option, Result, Ok, Err, ap, refl, subst, sym, inl, inr}
+use Rattle.std.proofs.Common.{◌≡◌, ◌↔◌, ◌≤◌, ◌∙◌, ℕ, Bool, List, Option, nat_eq, Result, Ok, Err, ap, refl, subst, sym, inl, inr}
 use Rattle.outputs.specs.DifferenceText.{LackLayer}
 use Rattle.shapes.specs.Maps.{Layers}
 use Rattle.topo.specs.OfMap.{IsOf}
 use Rattle.topo.specs.Parts.{TopologyParts}
 use Rattle.topo_io.specs.Means.{Means, MeansTopology}
 use Rattle.noshinka.specs.Options.{scope_of}
-use Rattle.noshinka.specs.Differing.{IsComparisonText, IsDiffAnswer, IsDiffRefusal, IsMeaningRefusal, IsTopologiesRefusal}
+use Rattle.noshinka.specs.Differing.{HasDiffChoices, IsComparisonText, IsDiffAnswer, IsDiffAsked, IsDiffRefusal, IsMeaningRefusal, IsTopologiesRefusal}
 use Rattle.noshinka.specs.Why.{IsChoiceRefusal, IsScopeRefusal, IsTextRefusal}
 use Rattle.noshinka.specs.declared.differing.DiffOptions.{DiffOptions}
 use Rattle.noshinka.specs.declared.refusal.CallRefusal.{CallRefusal}
@@ -82,3 +82,8 @@ diff_answer old new s t means others {layer} {key} {l} {k} {j} {b} e f g u is = 
   others_mean = others;
   is = subst (λ a. IsComparisonText s t l k a u) g (subst (λ a. IsComparisonText s t l a j u) f (subst (λ a. IsComparisonText s t a key j u) e is));
 }
+
+-- the same where the options are choices
+pub diff_asked : (a : DiffOptions) (old new : List ℕ) (s t : TopologyParts) → HasDiffChoices a → MeansTopology old s → MeansTopology new t → {layer key : Option (List ℕ)} {j : Bool} → layer ≡ scope_of a.scope a.layer.now →
+    key ≡ scope_of a.pairing a.key.now → j ≡ nat_eq a.json 1 → (u : List ℕ) → IsComparisonText s t layer key j u → IsDiffAsked a old new u
+diff_asked a old new s t chosen means others e f g u is = (chosen, diff_answer old new s t means others e f g u is)

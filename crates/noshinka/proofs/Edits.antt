@@ -31,11 +31,11 @@ pub remove_edit : (t : TopologyParts) (r : Layers) → ((m : Layers) → IsOf m 
 remove_edit t r only = (tt, λ m n k of h. h ∙ ap (less m) (only k of))
 
 -- the edit of a topology that the text of a change means, on the grid
-pub edit_on : (g : Transform) (c : Change) (b : Bool) (t : TopologyParts) (e : Edit) → b ≡ nat_eq c.kind 1 → MeansTopology c.text.now t → g ≡ t.grid → IsEditOf b t e → IsEditOn g c e
-edit_on g c b t e is meant same (on, does) =
+pub edit_on : (g : Transform) (c : Change) (b : Bool) (t : TopologyParts) (e : Edit) → c.kind < 2 → b ≡ nat_eq c.kind 1 → MeansTopology c.text.now t → g ≡ t.grid → IsEditOf b t e → IsEditOn g c e
+edit_on g c b t e kind is meant same (on, does) =
     let (m, means, of) = meant in (
       subst (λ x. IsOnGrid x e) (sym same) on,
-      (m, (subst (λ x. Means c.text.now x m) (sym same) means, λ k n h. subst (λ x. n ≡ with_or_less x k m) is (does k n m of h))),
+      (m, ((kind, subst (λ x. Means c.text.now x m) (sym same) means), λ k n h. subst (λ x. n ≡ with_or_less x k m) is (does k n m of h))),
     )
 
 pub change_memory : (g : Transform) (place : ℕ) (c : Change) → IsChangeRefusal g place c OutOfMemory
@@ -120,8 +120,8 @@ pub change_refused : (g h : Transform) (cs : List Change) (n : ℕ) (d : Change)
 change_refused g h cs n d r within same why =
     refused_now g (n + 1) (get_or cs n d) (drop (n + 1) cs) (drop n cs) r (next_change cs n d within) (subst (λ x. IsChangeRefusal x (n + 1) (get_or cs n d) r) same why)
 
--- behind the last change is none
-pub none_left : (cs : List Change) (n : ℕ) → length cs ≤ n → drop n cs ≡ []
+-- behind the last of a list is none
+pub none_left : {X : Type 0} (cs : List X) (n : ℕ) → length cs ≤ n → drop n cs ≡ []
 none_left [] zero past = refl
 none_left [] (suc n) past = refl
 none_left (x ∷ cs) zero past = absurd (omega (arith, past))

@@ -5,7 +5,7 @@ use Rattle.std.specs.declared.vec.Vec.{Vec}
 use Rattle.std.specs.Result.{IfErr, IfOk}
 use Rattle.std.specs.declared.result.Result.{Result}
 use Rattle.std.specs.declared.result.Result.TheVariants.{Ok, Err}
-use Rattle.noshinka.specs.Ends.{EndsWith, HasAnswer, HasRefusal, IsDone, IsEnd, IsFaultOutcome, IsOutOfMemory, IsRefused, NeedsRoom, IsVerdict, Says}
+use Rattle.noshinka.specs.Ends.{EndsWith, IsDone, IsEnd, IsRefused, IsVerdict, Says}
 use Rattle.noshinka.specs.declared.outcome.Outcome.{Outcome}
 use Rattle.noshinka.specs.declared.refusal.CallRefusal.{CallRefusal}
 use Rattle.noshinka.specs.declared.refusal.CallRefusal.TheVariants.{BadGrid, BadName, BadChoice, NoId, Text, OtherGrid, NoText, BadPlan, NoLayer, OutOfMemory}

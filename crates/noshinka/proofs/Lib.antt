@@ -6,6 +6,8 @@ pub mod Removals
 pub mod Refusals
 pub mod Differences
 pub mod Asked
-pub mod Reports
 pub mod Edits
+pub mod Keying
 pub mod Roundings
+pub mod Backs
+pub mod Qualities

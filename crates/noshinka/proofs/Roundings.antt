@@ -14,7 +14,7 @@ use Rattle.rounded_maps.specs.declared.map.RoundedMap.{RoundedMap}
 use Rattle.topo.specs.OfMap.{seen_parts}
 use Rattle.topo.specs.Parts.{TopologyParts}
 use Rattle.topo_io.specs.TopologyText.{topology_text}
-use Rattle.noshinka.specs.ReportText.{report_if}
+use Rattle.report_texts.specs.ReportText.{report_if}
 use Rattle.noshinka.specs.RoundOptions.{AreRules, HaveUnits, are_choices}
 use Rattle.noshinka.specs.Rounding.{IsFilesRefusal, IsMade, IsNamesRefusal, IsRoundAnswer, IsRoundRefusal, IsScaleRefusal, IsSourcesRefusal, features_in, files_as, names_in}
 use Rattle.noshinka.specs.Why.{IsBadName, IsBadNameIf, IsBadSource, of_maps}

@@ -1,5 +1,5 @@
 -- Answers about a topology, as answers about its text.
-use Rattle.std.proofs.Common.{◌≡◌, ◌↔◌, ℕ, Bool, true, false, IsTrue, List, None, Option, Some, refl, sym, ◌∙◌, subst, Result, Ok, Err}
+use Rattle.std.proofs.Common.{◌≡◌, ◌↔◌, ◌<◌, ℕ, Bool, true, false, IsTrue, List, None, Option, Some, ap, nat_eq, refl, sym, ◌∙◌, subst, Result, Ok, Err}
 use Rattle.std.specs.FinMap as layers
 use Rattle.faults.specs.Fault.{IsWant}
 use Rattle.faults.specs.declared.fault.Fault.{Fault}
@@ -32,8 +32,8 @@ feature_answer text name t whole meant is =
     let (m, means, of) = meant in
     record { grid = whole.grid; map = m; means = means; there = (is m of).0; is = (is m of).1 }
 
-pub info_answer : (text : List ℕ) (by : Bool) (t : List ℕ) (whole : TopologyParts) → MeansTopology text whole → t ≡ info_text by whole → IsInfoAnswer text by t
-info_answer text by t whole means is = record { topology = whole; means = means; is = is }
+pub info_answer : (text : List ℕ) (json : ℕ) (by : Bool) (t : List ℕ) (whole : TopologyParts) → json < 2 → by ≡ nat_eq json 1 → MeansTopology text whole → t ≡ info_text by whole → IsInfoAnswer text json t
+info_answer text json by t whole chosen same means is = record { chosen = chosen; topology = whole; means = means; is = is ∙ ap (λ b. info_text b whole) same }
 
 -- the fault of a text, as a refusal of it
 pub text_refused : (place : ℕ) (text : List ℕ) (f : Fault) → LeastOrWant (faults_of_text text) f → (r : CallRefusal) → IsFaultAt place f r → IsTextRefusal place text r

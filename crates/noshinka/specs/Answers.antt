@@ -1,5 +1,5 @@
 -- What the library's calls answer.
-use Rattle.std.specs.Prelude.{◌≡◌, ◌↔◌, ⊤, ℕ, Bool, IsTrue, List, [], None, Option, Some}
+use Rattle.std.specs.Prelude.{◌≡◌, ◌<◌, ⊤, ℕ, IsTrue, List, [], None, Option, Some, nat_eq}
 use Rattle.std.specs.FinMap as layers
 use Rattle.grid.specs.Place.{Transform}
 use Rattle.outputs.specs.InfoText.{info_text}
@@ -54,11 +54,12 @@ pub record IsFeatureText (text name t : List ℕ) : Type 0 where
   pub there : HasLayer map name
   pub is : t ≡ layer_collection grid map name
 
--- the text is accepted, and t says what its topology is made of, as a JSON object or as lines
-pub record IsInfoAnswer (text : List ℕ) (is_json : Bool) (t : List ℕ) : Type 0 where
+-- the number is a choice, the text is accepted, and t says what its topology is made of, as a JSON object for 1, as lines for 0
+pub record IsInfoAnswer (text : List ℕ) (json : ℕ) (t : List ℕ) : Type 0 where
+  pub chosen : json < 2
   pub topology : TopologyParts
   pub means : MeansTopology text topology
-  pub is : t ≡ info_text is_json topology
+  pub is : t ≡ info_text (nat_eq json 1) topology
 
 -- t is the GeoJSON text of the features that the topology has in the layer of the name, which is there
 abbrev pub IsCollectionText : TopologyParts → List ℕ → List ℕ → Type 0

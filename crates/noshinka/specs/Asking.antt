@@ -1,5 +1,5 @@
 -- What meshes and neighbours are answered as, and why they are not.
-use Rattle.std.specs.Prelude.{◌≡◌, ◌≤◌, ◌⊎◌, ◌&&◌, ℕ, Bool, true, false, List, [], None, Option, Some, nat_eq, nat_lt, if◌then◌else◌}
+use Rattle.std.specs.Prelude.{◌≡◌, ◌<◌, ◌≤◌, ◌⊎◌, ◌&&◌, ℕ, Bool, true, false, List, None, Option, Some, nat_eq, nat_lt, if◌then◌else◌}
 use Rattle.chains.specs.Arcs.{Arcs}
 use Rattle.query.specs.AnswerTexts.{mesh_text, neighbor_ids_text, neighbors_text}
 use Rattle.query.specs.ByProperty.{AreBordersBy, ListsNeighborsBy}
@@ -15,6 +15,7 @@ use Rattle.topo.specs.Parts.{IsOfLayerNamed, TopologyParts}
 use Rattle.topo.specs.declared.geom.Geom.{Geom}
 use Rattle.topo_io.specs.Means.{MeansTopology}
 use Rattle.noshinka.specs.Answers.{HasLayer, HasScope}
+use Rattle.noshinka.specs.Keys.{has_key_twice}
 use Rattle.noshinka.specs.Options.{edges_of, lacks_id, name_if, scope_of}
 use Rattle.noshinka.specs.Why.{IsBadName, IsBadNameIf, IsQuestionRefusal, IsTextRefusal}
 use Rattle.noshinka.specs.declared.questions.MeshOptions.{MeshOptions}
@@ -39,8 +40,13 @@ by_of o = name_if (nat_eq o.edges 3) o.property.now
 abbrev pub layer_of : MeshOptions → Option (List ℕ)
 layer_of o = scope_of o.scope o.layer.now
 
--- the text is accepted, and t is the text of the borders of its topology that the options ask for
+-- the options have the size of these, and each number stands for a choice
+abbrev pub HasMeshChoices : MeshOptions → Type 0
+HasMeshChoices o = (o.size ≡ 48) × ((o.scope < 2) × (o.edges < 4))
+
+-- the options are choices, the text is accepted, and t is the text of the borders of its topology that the options ask for
 pub record IsMeshText (o : MeshOptions) (text t : List ℕ) : Type 0 where
+  pub chosen : HasMeshChoices o
   pub topology : TopologyParts
   pub means : MeansTopology text topology
   pub borders : IsBordersText topology (layer_of o) (by_of o) (edges_of o.edges) t
@@ -67,37 +73,50 @@ ids_text false gs lists = neighbor_ids_text gs lists
 abbrev pub lists_text : ℕ → List Geom → List (List ℕ) → List ℕ
 lists_text form gs lists = if nat_eq form 0 then neighbors_text lists else ids_text (nat_eq form 2) gs lists
 
+-- the geometries of the layer of the name, each of which has an id, and where these are names of members, another one than the others
+pub record AreWithIds (topology : TopologyParts) (name : List ℕ) (is_keyed : Bool) (geometries : List Geom) : Type 0 where
+  pub layer : IsOfLayerNamed topology.layers name geometries
+  pub ids : lacks_id geometries ≡ false
+  pub keys : (is_keyed && has_key_twice geometries) ≡ false
+
 -- t is the text of the lists of the neighbours of the features that the topology has in the layer of the name, which is there
 pub record IsListsText (topology : TopologyParts) (name : List ℕ) (by : Option (List ℕ)) (form : ℕ) (t : List ℕ) : Type 0 where
   pub there : ForItsMap topology (λ m. HasLayer m name)
   pub geometries : List Geom
-  pub layer : (form ≡ 0) ⊎ IsOfLayerNamed topology.layers name geometries
+  pub layer : (form ≡ 0) ⊎ AreWithIds topology name (nat_eq form 2) geometries
   pub lists : List (List ℕ)
   pub neighbors : ForItsMap topology (λ m. AreAskedNeighbors by (set.items (features_at m name)) lists)
   pub is : t ≡ lists_text form geometries lists
-
--- the text is accepted, and t is the text of the neighbours of each feature in a layer of its topology that the options ask for
-pub record IsNeighborsAnswer (o : NeighborsOptions) (text name t : List ℕ) : Type 0 where
-  pub topology : TopologyParts
-  pub means : MeansTopology text topology
-  pub lists : IsListsText topology name (name_if (nat_eq o.kind 1) o.property.now) o.lists t
 
 -- the options have the size of these, and each number stands for a choice
 abbrev pub are_neighbors_choices : NeighborsOptions → Bool
 are_neighbors_choices o = (nat_eq o.size 32 && nat_lt o.kind 2) && nat_lt o.lists 3
 
+-- the options are choices, the text is accepted, and t is the text of the neighbours of each feature in a layer of its topology that they ask for
+pub record IsNeighborsAnswer (o : NeighborsOptions) (text name t : List ℕ) : Type 0 where
+  pub chosen : are_neighbors_choices o ≡ true
+  pub topology : TopologyParts
+  pub means : MeansTopology text topology
+  pub lists : IsListsText topology name (name_if (nat_eq o.kind 1) o.property.now) o.lists t
+
 -- a geometry of the layer of the name has no id
 abbrev pub LacksId : TopologyParts → List ℕ → Type 0
 LacksId t name = (gs : List Geom) × IsOfLayerNamed t.layers name gs × (lacks_id gs ≡ true)
 
--- the topology has no layer of that name, a geometry of the layer has no id, or memory was refused
-abbrev pub IsIdsRefusal : TopologyParts → List ℕ → CallRefusal → Type 0
-IsIdsRefusal t name r = (r ≡ OutOfMemory) ⊎ (((r ≡ NoLayer) × ForItsMap t (λ m. IsMissing m (Some name))) ⊎ ((r ≡ NoId) × LacksId t name))
+-- two geometries of the layer of the name have one id as names of members, where these are asked for
+abbrev pub HasKeyTwice : TopologyParts → List ℕ → Bool → Type 0
+HasKeyTwice t name is_keyed = (gs : List Geom) × IsOfLayerNamed t.layers name gs × ((is_keyed && has_key_twice gs) ≡ true)
 
--- no layer has the name, or memory was refused; or ids are asked for, and one is missing
+-- the topology has no layer of that name, ids of the layer are missing or no names of members, or memory was refused
+abbrev pub IsIdsRefusal : TopologyParts → List ℕ → Bool → CallRefusal → Type 0
+IsIdsRefusal t name is_keyed r =
+    (r ≡ OutOfMemory) ⊎ (((r ≡ NoLayer) × ForItsMap t (λ m. IsMissing m (Some name))) ⊎ ((r ≡ NoId) × (LacksId t name ⊎ HasKeyTwice t name is_keyed)))
+
+-- no layer has the name, or memory was refused; or ids are asked for, and are missing or no names of members
 abbrev pub IsListsRefusal : TopologyParts → List ℕ → ℕ → CallRefusal → Type 0
 IsListsRefusal t name form r =
-    (r ≡ OutOfMemory) ⊎ (((r ≡ NoLayer) × ForItsMap t (λ m. IsMissing m (Some name))) ⊎ ((r ≡ NoId) × ((1 ≤ form) × LacksId t name)))
+    (r ≡ OutOfMemory)
+    ⊎ (((r ≡ NoLayer) × ForItsMap t (λ m. IsMissing m (Some name))) ⊎ ((r ≡ NoId) × ((1 ≤ form) × (LacksId t name ⊎ HasKeyTwice t name (nat_eq form 2)))))
 
 -- first the options, then the names, then the text
 abbrev pub IsNeighborsRefusal : NeighborsOptions → List ℕ → List ℕ → CallRefusal → Type 0

@@ -1,5 +1,5 @@
 -- What a text becomes by changes, and why it isn't changed.
-use Rattle.std.specs.Prelude.{◌≡◌, ◌≤◌, ◌⊎◌, ◌+◌, ℕ, Bool, true, false, List, [], ◌∷◌, nat_eq}
+use Rattle.std.specs.Prelude.{◌≡◌, ◌<◌, ◌≤◌, ◌⊎◌, ◌+◌, ℕ, Bool, true, false, List, [], ◌∷◌, nat_eq}
 use Rattle.grid.specs.Place.{Transform}
 use Rattle.refine.specs.Edits.{IsEditedTo, IsOnGrid}
 use Rattle.refine.specs.declared.edit.Edit.{Edit}
@@ -25,9 +25,9 @@ with_or_less false m k = union m k
 abbrev pub IsEditOf : Bool → TopologyParts → Edit → Type 0
 IsEditOf is_removal t e = IsOnGrid t.grid e × ((m n k : Layers) → IsOf k t → IsEditedTo m e n → n ≡ with_or_less is_removal m k)
 
--- the text of the change is accepted on the grid, and this is what it means
+-- the kind of the change is one, its text is accepted on the grid, and this is what it means
 abbrev pub IsMeantOn : Transform → Change → Layers → Type 0
-IsMeantOn g c k = Means c.text.now g k
+IsMeantOn g c k = (c.kind < 2) × Means c.text.now g k
 
 -- the edit adds the features that the text of the change means on the grid, or takes them out
 abbrev pub IsEditOn : Transform → Change → Edit → Type 0

@@ -6,9 +6,11 @@ pub mod Answers
 pub mod Differing
 pub mod Listing
 pub mod RoundOptions
-pub mod ReportText
-pub mod ReportParts
 pub mod Rounding
 pub mod Editing
 pub mod FaultNames
+pub mod Keys
+pub mod BackOptions
+pub mod WayBack
+pub mod Quality
 pub mod Asking

@@ -1,5 +1,5 @@
 -- The faults of a text as an answer, and why they are not listed.
-use Rattle.std.specs.Prelude.{◌≡◌, ◌≤◌, ◌⊎◌, ℕ, All, Bool, true, false, List, map, nat_eq}
+use Rattle.std.specs.Prelude.{◌≡◌, ◌<◌, ◌≤◌, ◌⊎◌, ℕ, All, Bool, true, false, List, map, nat_eq}
 use Rattle.faults.specs.Fault.{Pair}
 use Rattle.geojson_io.specs.Features.{faults_of_text as geojson_faults}
 use Rattle.grid.specs.Place.{Transform, IsTransform}
@@ -30,6 +30,10 @@ format_of false = Topology
 abbrev pub faults_as : Bool → Transform → List ℕ → List Pair
 faults_as true t text = geojson_faults t text
 faults_as false t text = faults_of_text text
+
+-- the number stands for a format, and t is the array of the faults of the text read as it
+abbrev pub IsFaultsAnswer : ℕ → Transform → List ℕ → List ℕ → Type 0
+IsFaultsAnswer format g text t = (format < 2) × IsFaultText (format_of (nat_eq format 1)) text (faults_as (nat_eq format 1) g text) t
 
 -- the grid is outside its limits, or memory was refused
 abbrev pub IsGridRefusal : Transform → CallRefusal → Type 0

@@ -1,5 +1,5 @@
 -- What noshinka_round answers, and why it answers nothing.
-use Rattle.std.specs.Prelude.{◌≡◌, ◌⊎◌, ℕ, Bool, true, false, List, [], ◌∷◌, ◌++◌, map, nat_eq, option_map, pos, slice_get, IsUtf8, Some}
+use Rattle.std.specs.Prelude.{◌≡◌, ◌⊎◌, ℕ, Bool, true, false, List, ◌++◌, map, nat_eq, option_map, pos, slice_get, IsUtf8, Some}
 use Rattle.numerals.specs.Numeral.{measure_of}
 use Rattle.rounded_maps.specs.Built.{AreMaps, IsBuilt, IsReport}
 use Rattle.rounded_maps.specs.Files.{File, file_of}
@@ -16,7 +16,7 @@ use Rattle.topo.specs.OfMap.{seen_parts}
 use Rattle.topo.specs.Parts.{TopologyParts}
 use Rattle.topo_io.specs.TopologyText.{topology_text}
 use Rattle.noshinka.specs.Options.{name_if}
-use Rattle.noshinka.specs.ReportText.{report_if}
+use Rattle.report_texts.specs.ReportText.{report_if}
 use Rattle.noshinka.specs.RoundOptions.{AreRules, HaveUnits, IsSize, IsUnits, are_choices, numeral_of, scale_of, scale_pair}
 use Rattle.noshinka.specs.Why.{HasBadName, HasBadScope, of_maps}
 use Rattle.noshinka.specs.declared.refusal.CallRefusal.{CallRefusal}

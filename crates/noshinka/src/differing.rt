@@ -1,8 +1,7 @@
 //! What differs between two borrowed topologies.
-ghost use Rattle.noshinka.specs.Differing.{IsComparisonText, IsDiffAnswer, IsDiffRefusal, IsTopologiesRefusal};
-ghost use Rattle.noshinka.specs.Options.{scope_of};
+ghost use Rattle.noshinka.specs.Differing.{IsComparisonText, IsDiffAsked, IsDiffRefusal, IsTopologiesRefusal};
 ghost use Rattle.std.specs.Option.{option_copied};
-ghost use Rattle.std.specs.Prelude.{◌≤◌, IfErr, IfOk, nat_eq};
+ghost use Rattle.std.specs.Prelude.{IfErr, IfOk};
 
 use crate::making::on_one_grid;
 use crate::options::{flag, scope_named};
@@ -59,7 +58,7 @@ pub(crate) fn diff(
     new: &[u8],
     options: &DiffOptions<'_>,
 ) -> Result<Vec<u8>, CallRefusal>
-    ensures made { IfOk result (λ t. IsDiffAnswer old.now new.now (scope_of options.now.scope options.now.layer.now) (scope_of options.now.pairing options.now.key.now) (nat_eq options.now.json 1) t.items) }
+    ensures made { IfOk result (λ t. IsDiffAsked options.now old.now new.now t.items) }
     ensures refused { IfErr result (IsDiffRefusal options.now old.now new.now) }
 {
     if options.size != SIZE {

@@ -1,11 +1,11 @@
 //! All faults of a borrowed text.
 ghost use Rattle.noshinka.specs.Borrowed.{grid_of};
-ghost use Rattle.noshinka.specs.Listing.{IsFaultText, IsFormatRefusal, IsGridRefusal, IsListRefusal, faults_as, format_of};
+ghost use Rattle.noshinka.specs.Listing.{IsFaultText, IsFaultsAnswer, IsFormatRefusal, IsGridRefusal, IsListRefusal, faults_as, format_of};
 ghost use Rattle.reading.specs.FaultLists.Found.{pairs_of};
 ghost use Rattle.geojson_io.specs.Features.{faults_of_text as geojson_faults};
 ghost use Rattle.outputs.specs.FaultReports.{array_text};
 ghost use Rattle.outputs.specs.declared.fault_reports.features.Format.TheVariants.{GeoJson, Topology};
-ghost use Rattle.std.specs.Prelude.{◌≡◌, ◌≤◌, IfErr, IfOk, nat_eq};
+ghost use Rattle.std.specs.Prelude.{◌≡◌, IfErr, IfOk};
 ghost use Rattle.topo_io.specs.Roots.{faults_of_text};
 
 use crate::borrowed::{GridNumbers, grid_within};
@@ -85,7 +85,7 @@ pub(crate) fn faults(
     format: u32,
     grid: &GridNumbers,
 ) -> Result<Vec<u8>, CallRefusal>
-    ensures listed { IfOk result (λ t. IsFaultText (format_of (nat_eq format 1)) text.now (faults_as (nat_eq format 1) (grid_of grid.now) text.now) t.items) }
+    ensures listed { IfOk result (λ t. IsFaultsAnswer format (grid_of grid.now) text.now t.items) }
     ensures refused { IfErr result (IsListRefusal format (grid_of grid.now)) }
 {
     let is_geojson = flag(format)?;

@@ -6,35 +6,40 @@ ghost use Rattle.outputs.specs.BuiltText.Maps.{IsTextOfTexts};
 ghost use Rattle.merging.specs.Merge.{lent_texts, IsMergeOf};
 ghost use Rattle.noshinka.specs.Answers.{IsCanonical, IsFeatureText, IsInfoAnswer, IsNotCanonical, IsRemoval};
 ghost use Rattle.noshinka.specs.Asking.{IsMeshRefusal, IsMeshText, IsNeighborsAnswer, IsNeighborsRefusal};
-ghost use Rattle.noshinka.specs.Options.{scope_of};
-ghost use Rattle.noshinka.specs.Differing.{IsDiffAnswer, IsDiffRefusal};
+ghost use Rattle.noshinka.specs.Differing.{IsDiffAsked, IsDiffRefusal};
 ghost use Rattle.noshinka.specs.Ends.{EndsWith, IsVerdict};
 ghost use Rattle.noshinka.specs.Borrowed.{grid_of, borrowed_sources};
-ghost use Rattle.noshinka.specs.Listing.{IsFaultText, IsListRefusal, faults_as, format_of};
+ghost use Rattle.noshinka.specs.Listing.{IsFaultsAnswer, IsListRefusal};
 ghost use Rattle.noshinka.specs.Editing.{IsEditAnswer, IsEditRefusal};
 ghost use Rattle.noshinka.specs.FaultNames.{IsFaultName, IsNameless};
 ghost use Rattle.noshinka.specs.Rounding.{IsRoundAnswer, IsRoundRefusal};
+ghost use Rattle.noshinka.specs.Quality.{IsQualityAnswer, IsQualityRefusal};
+ghost use Rattle.noshinka.specs.WayBack.{IsBackAnswer, IsBackRefusal};
 ghost use Rattle.noshinka.specs.Why.{IsBuildRefusal, IsMergeRefusal, IsQuestionRefusal, IsRemoveRefusal, IsTextRefusal};
 ghost use Rattle.std.specs.List.{range_with_len};
-ghost use Rattle.std.specs.Prelude.{◌≡◌, ◌≤◌, None, Some, length, nat_eq};
+ghost use Rattle.std.specs.Prelude.{◌≡◌, ◌≤◌, None, Some, length};
 
+mod back_options;
 mod borrowed;
 mod differing;
 mod editing;
 mod fault_names;
 mod fault_texts;
+mod keys;
 mod making;
+mod map_quality;
 mod options;
 mod outcome;
 mod questions;
 mod refusal;
-mod report_text;
 mod room;
 mod round_options;
 mod rounding;
 mod rules;
 mod topologies;
+mod way_back;
 
+pub use back_options::WayBackOptions;
 pub use borrowed::{GridNumbers, Source};
 pub use differing::DiffOptions;
 use differing::diff;
@@ -43,6 +48,8 @@ use editing::edit;
 use fault_names::fault_name;
 use fault_texts::faults;
 use making::{build, merge, remove};
+pub use map_quality::QualityOptions;
+use map_quality::quality;
 pub use outcome::Outcome;
 pub use questions::{MeshOptions, NeighborsOptions};
 use questions::{feature, info, mesh, neighbors};
@@ -51,6 +58,7 @@ pub use round_options::{PropertyScale, RoundOptions};
 use rounding::round;
 use std::alloc::Global;
 use topologies::check;
+use way_back::back;
 
 /// The version of the calls. A caller that was written for another one calls nothing else.
 #[unsafe(no_mangle)]
@@ -114,7 +122,7 @@ pub extern "C" fn noshinka_faults(
     grid: &GridNumbers,
     room: &mut [u8],
 ) -> Outcome
-    ensures { EndsWith (IsFaultText (format_of (nat_eq format 1)) text.now (faults_as (nat_eq format 1) (grid_of grid.now) text.now)) (IsListRefusal format (grid_of grid.now)) result room.old room.new }
+    ensures { EndsWith (IsFaultsAnswer format (grid_of grid.now) text.now) (IsListRefusal format (grid_of grid.now)) result room.old room.new }
 {
     answer(alloc, faults(alloc, text, format, grid), room)
 }
@@ -163,7 +171,7 @@ pub extern "C" fn noshinka_neighbors(
 /// is 1.
 #[unsafe(no_mangle)]
 pub extern "C" fn noshinka_info(alloc: Global, text: &[u8], json: u32, room: &mut [u8]) -> Outcome
-    ensures { EndsWith (IsInfoAnswer text.now (nat_eq json 1)) (IsQuestionRefusal (2 ≤ json) text.now None) result room.old room.new }
+    ensures { EndsWith (IsInfoAnswer text.now json) (IsQuestionRefusal (2 ≤ json) text.now None) result room.old room.new }
 {
     answer(alloc, info(alloc, text, json), room)
 }
@@ -196,6 +204,34 @@ pub extern "C" fn noshinka_edit(
     answer(alloc, edit(alloc, text, changes), room)
 }
 
+/// Puts a topology's text in the unit of the map into the room, as `togrid --back` prints it. The text has the place 0, that
+/// whose transform it is written on the place 1.
+#[unsafe(no_mangle)]
+pub extern "C" fn noshinka_back(
+    alloc: Global,
+    options: &WayBackOptions<'_>,
+    text: &[u8],
+    room: &mut [u8],
+) -> Outcome
+    ensures { EndsWith (IsBackAnswer options.now text.now) (IsBackRefusal options.now text.now) result room.old room.new }
+{
+    answer(alloc, back(alloc, options, text), room)
+}
+
+/// Puts whether a topology's text is canonical into the room, and what the tests find that the options ask for, as a JSON
+/// object.
+#[unsafe(no_mangle)]
+pub extern "C" fn noshinka_quality(
+    alloc: Global,
+    options: &QualityOptions,
+    text: &[u8],
+    room: &mut [u8],
+) -> Outcome
+    ensures { EndsWith (IsQualityAnswer options.now text.now) (IsQualityRefusal options.now text.now) result room.old room.new }
+{
+    answer(alloc, quality(alloc, options, text), room)
+}
+
 /// Puts the name of the fault with a number into the room.
 #[unsafe(no_mangle)]
 pub extern "C" fn noshinka_fault_name(alloc: Global, fault: u32, room: &mut [u8]) -> Outcome
@@ -214,7 +250,7 @@ pub extern "C" fn noshinka_diff(
     other: &[u8],
     room: &mut [u8],
 ) -> Outcome
-    ensures { EndsWith (IsDiffAnswer text.now other.now (scope_of options.now.scope options.now.layer.now) (scope_of options.now.pairing options.now.key.now) (nat_eq options.now.json 1)) (IsDiffRefusal options.now text.now other.now) result room.old room.new }
+    ensures { EndsWith (IsDiffAsked options.now text.now other.now) (IsDiffRefusal options.now text.now other.now) result room.old room.new }
 {
     answer(alloc, diff(alloc, text, other, options), room)
 }

@@ -2,7 +2,7 @@
 ghost use Rattle.noshinka.specs.Options.{edges_of, has_no_id, lacks_id, name_if, scope_of};
 ghost use Rattle.noshinka.specs.Why.{IsBadNameIf, IsChoiceRefusal, IsScopeRefusal};
 ghost use Rattle.std.specs.Option.{option_map};
-ghost use Rattle.std.specs.Prelude.{◌≡◌, ◌≤◌, IfErr, IfOk, nat_eq};
+ghost use Rattle.std.specs.Prelude.{◌≡◌, ◌<◌, ◌≤◌, IfErr, IfOk, OnOk, nat_eq};
 
 use crate::borrowed::name_of;
 use crate::refusal::CallRefusal;
@@ -13,6 +13,7 @@ use topo::Geom;
 /// Yes for 1, no for 0.
 pub(crate) fn flag(number: u32) -> Result<bool, CallRefusal>
     ensures yes { IfOk result (λ b. b ≡ nat_eq number 1) }
+    ensures choice { OnOk result (number < 2) }
     ensures bad { IfErr result (IsChoiceRefusal (2 ≤ number)) }
 {
     match number {
@@ -25,6 +26,7 @@ pub(crate) fn flag(number: u32) -> Result<bool, CallRefusal>
 /// The edges that a number stands for; 3 is for those at which a property differs.
 pub(crate) fn edges_named(number: u32) -> Result<Edges, CallRefusal>
     ensures edges { IfOk result (λ e. e ≡ edges_of number) }
+    ensures choice { OnOk result (number < 4) }
     ensures bad { IfErr result (IsChoiceRefusal (4 ≤ number)) }
 {
     match number {
@@ -38,6 +40,7 @@ pub(crate) fn edges_named(number: u32) -> Result<Edges, CallRefusal>
 /// The name of a layer for 1, none for 0.
 pub(crate) fn scope_named(number: u32, layer: &[u8]) -> Result<Option<&str>, CallRefusal>
     ensures scope { IfOk result (λ s. option_map (λ n. n.now) s ≡ scope_of number layer.now) }
+    ensures choice { OnOk result (number < 2) }
     ensures bad { IfErr result (IsScopeRefusal number layer.now) }
 {
     match number {

@@ -1,6 +1,6 @@
 //! Answers to questions about a borrowed topology.
 ghost use Rattle.noshinka.specs.Answers.{IsCollectionText, IsFeatureText, IsInfoAnswer};
-ghost use Rattle.noshinka.specs.Asking.{AreAskedBorders, AreAskedNeighbors, IsBordersText, IsIdsRefusal, IsListsRefusal, IsListsText, IsMeshRefusal, IsMeshText, IsNeighborsAnswer, IsNeighborsRefusal, are_neighbors_choices, ids_text};
+ghost use Rattle.noshinka.specs.Asking.{AreAskedBorders, AreAskedNeighbors, AreWithIds, IsBordersText, IsIdsRefusal, IsListsRefusal, IsListsText, IsMeshRefusal, IsMeshText, IsNeighborsAnswer, IsNeighborsRefusal, are_neighbors_choices, ids_text};
 ghost use Rattle.noshinka.specs.Why.{IsLayerRefusal, IsQuestionRefusal};
 ghost use Rattle.query.specs.AnswerTexts.{neighbor_ids_text, neighbors_text};
 ghost use Rattle.query.specs.Keyed.{keyed_text};
@@ -12,11 +12,11 @@ ghost use Rattle.shapes.specs.Sets as set;
 ghost use Rattle.sinks.specs.Writes.{TookAll, TookPart};
 ghost use Rattle.std.specs.FinMap as layers;
 ghost use Rattle.std.specs.Option.{option_map};
-ghost use Rattle.std.specs.Prelude.{◌≡◌, ◌↔◌, ◌≤◌, Err, IfErr, IfOk, IsTrue, OnErr, OnOk, Some, None, map, nat_eq};
+ghost use Rattle.std.specs.Prelude.{◌≡◌, ◌↔◌, ◌≤◌, Err, IfErr, IfOk, IsTrue, OnErr, OnOk, Some, None, map};
 ghost use Rattle.topo.specs.ItsMap.{ForItsMap};
-ghost use Rattle.topo.specs.Parts.{IsOfLayerNamed};
 
 use crate::borrowed::name_of;
+use crate::keys::is_key_twice;
 use crate::options::{edges_named, flag, is_id_missing, name_if, scope_named};
 use crate::refusal::CallRefusal;
 use crate::topologies::topology_of;
@@ -203,15 +203,24 @@ fn neighbors_asked(
     }
 }
 
-/// The geometries of a layer, each of which has an id.
-fn geometries_with_ids<'a>(topology: &'a Topology, layer: &str) -> Result<&'a [Geom], CallRefusal>
-    ensures geometries { IfOk result (λ gs. IsOfLayerNamed topology.now.layers layer.now gs.now) }
-    ensures refused { IfErr result (IsIdsRefusal topology.now layer.now) }
+/// The geometries of a layer, each of which has an id, and where these are names of members, another one than the others.
+#[tactic(auto, using(crate::proofs::Asked::with_ids, crate::proofs::Asked::id_missing, crate::proofs::Asked::key_twice, crate::proofs::Asked::ids_memory))]
+fn geometries_with_ids<'a>(
+    alloc: Global,
+    topology: &'a Topology,
+    layer: &str,
+    is_keyed: bool,
+) -> Result<&'a [Geom], CallRefusal>
+    ensures geometries { IfOk result (λ gs. AreWithIds topology.now layer.now is_keyed gs.now) }
+    ensures refused { IfErr result (IsIdsRefusal topology.now layer.now is_keyed) }
 {
     let Some(geometries) = topology.geometries(layer) else {
         return Err(CallRefusal::NoLayer);
     };
     if is_id_missing(geometries) {
+        return Err(CallRefusal::NoId);
+    }
+    if is_key_twice(alloc, geometries, is_keyed)? {
         return Err(CallRefusal::NoId);
     }
     Ok(geometries)
@@ -234,7 +243,7 @@ fn text_by_ids(
 }
 
 /// The text of the neighbours of each feature of a layer: by places for 0, by ids for 1, as an object by ids for 2.
-#[tactic(auto, using(crate::proofs::Asked::lists_not_asked))]
+#[tactic(auto, using(crate::proofs::Asked::lists_not_asked, crate::proofs::Asked::ids_refused))]
 fn text_of_neighbors(
     alloc: Global,
     topology: &Topology,
@@ -249,8 +258,9 @@ fn text_of_neighbors(
     if form == 0 {
         return Ok(text_of_lists(alloc, lists.as_slice())?);
     }
-    let geometries = geometries_with_ids(topology, layer)?;
-    Ok(text_by_ids(alloc, geometries, lists.as_slice(), form == 2)?)
+    let is_keyed = form == 2;
+    let geometries = geometries_with_ids(alloc, topology, layer, is_keyed)?;
+    Ok(text_by_ids(alloc, geometries, lists.as_slice(), is_keyed)?)
 }
 
 /// The neighbours of each feature of a layer of a topology's text.
@@ -276,7 +286,7 @@ pub(crate) fn neighbors(
 /// What a topology's text is made of, as lines, or as JSON where `json` is 1.
 #[tactic(auto, using(crate::proofs::Texts::info_answer, crate::proofs::PartRefusals::choice_question, crate::proofs::PartRefusals::text_question))]
 pub(crate) fn info(alloc: Global, text: &[u8], json: u32) -> Result<Vec<u8>, CallRefusal>
-    ensures made { IfOk result (λ t. IsInfoAnswer text.now (nat_eq json 1) t.items) }
+    ensures made { IfOk result (λ t. IsInfoAnswer text.now json t.items) }
     ensures refused { IfErr result (IsQuestionRefusal (2 ≤ json) text.now None) }
 {
     let is_json = flag(json)?;

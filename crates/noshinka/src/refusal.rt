@@ -1,6 +1,6 @@
 //! Why a call gives no answer, and how it says so.
 ghost use Rattle.sinks.specs.PathText.PathText.{path_text};
-ghost use Rattle.faults.specs.Fault.{IsWant, number_of, turn_of};
+ghost use Rattle.faults.specs.Fault.{number_of, turn_of};
 ghost use Rattle.noshinka.specs.Ends.{IsFaultOutcome, IsRefused};
 ghost use Rattle.noshinka.specs.Why.{IsFaultAt, of_build};
 ghost use Rattle.noshinka.specs.declared.refusal.CallRefusal.TheVariants as refusal;
@@ -8,6 +8,7 @@ ghost use Rattle.std.specs.Prelude.{◌≡◌, ◌⊎◌, IfOk, map};
 
 use crate::outcome::Outcome;
 use crate::room::put_text;
+use decimals::topology::DecimalFault;
 use faults::{Fault, FaultKind, OutOfMemory, Step};
 use outputs::built_text::BuildFault;
 use query::QueryFault;
@@ -21,7 +22,7 @@ use std::alloc::{AllocError, AllocFailed, Global};
 /// Why a call gives no answer.
 #[derive(Drop)]
 pub(crate) enum CallRefusal {
-    /// A number of the grid is outside its limits, or a step or a unit is none.
+    /// A number of the grid is outside its limits, or a step or a unit is none, or has too many digits.
     BadGrid,
     /// The name at this place is not UTF-8.
     BadName(usize),
@@ -189,6 +190,19 @@ impl From<MapsFault> for CallRefusal {
         match fault {
             MapsFault::Text(place, fault) => CallRefusal::Text(place, fault),
             MapsFault::OutOfMemory => CallRefusal::OutOfMemory,
+        }
+    }
+}
+
+impl From<DecimalFault> for CallRefusal {
+    ghost use Rattle.noshinka.specs.WayBack.{of_decimal};
+
+    ghost from_gives = { λ e r. r ≡ of_decimal e };
+
+    fn from(fault: DecimalFault) -> CallRefusal {
+        match fault {
+            DecimalFault::TooManyDigits => CallRefusal::BadGrid,
+            DecimalFault::OutOfMemory => CallRefusal::OutOfMemory,
         }
     }
 }

@@ -1,7 +1,7 @@
 //! From texts in decimal numbers to the topology or the features of what they are rounded to.
 ghost use Rattle.noshinka.specs.Borrowed.{borrowed_sources};
 ghost use Rattle.noshinka.specs.Rounding.{IsFilesRefusal, IsMade, IsRoundAnswer, IsRoundRefusal, IsSourcesRefusal, features_in, files_as, names_in};
-ghost use Rattle.noshinka.specs.ReportText.{report_if};
+ghost use Rattle.report_texts.specs.ReportText.{report_if};
 ghost use Rattle.outputs.specs.BuiltText.Maps.{borrowed_texts};
 ghost use Rattle.rounded_maps.specs.Files.{file_of, files_of};
 ghost use Rattle.rounded_maps.specs.Written.{map_text};
@@ -11,11 +11,11 @@ ghost use Rattle.topo_io.specs.TopologyText.{topology_text};
 
 use crate::borrowed::{Source, borrow_sources};
 use crate::refusal::CallRefusal;
-use crate::report_text::write_report;
 use crate::round_options::{RoundOptions, are_choices};
 use crate::rules::{names_of, rules_of, units_of};
 use faults::OutOfMemory;
 use grid::Grid;
+use report_texts::write_report;
 use rounded_maps::{
     BuildRules, Rounded, RoundedFeature, RoundedMap, Source as FileSource, build_maps, round_maps,
     write_collection,

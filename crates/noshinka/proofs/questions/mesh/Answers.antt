@@ -5,7 +5,7 @@ use Rattle.noshinka.proofs.questions.mesh.Goals as goal
 pub returns-clause-borders : goal.returns-clause-borders
 returns-clause-borders c =
     IfOk-weaker c.text_of_borders.result _ _
-    (λ t is. mesh_answer c.args.options.now c.args.text.now t.items c.in_ok-topology.topology c.in_ok-topology.ensures.means c.in_ok-layer.ensures.scope c.in_ok-by.ensures.name c.in_ok-edges.ensures.edges is)
+    (λ t is. mesh_answer c.args.options.now c.args.text.now t.items c.in_ok-topology.topology (c.if-options-ne-MESH_SIZE.false, (c.in_ok-layer.ensures.choice, c.in_ok-edges.ensures.choice)) c.in_ok-topology.ensures.means c.in_ok-layer.ensures.scope c.in_ok-by.ensures.name c.in_ok-edges.ensures.edges is)
     c.text_of_borders.ensures.text
 
 pub returns-clause-refused : goal.returns-clause-refused

@@ -2,6 +2,7 @@
 use Rattle.std.specs.Prelude.{ℕ, ℤ, Bool, true, false, List, [], ◌++◌, Option, Some, None, Vec, codes, length, map, option_map, slice_get, string_bytes}
 use Rattle.std.specs.declared.alloc.Global.{Global}
 use Rattle.std.specs.Fmt.{decimal}
+use Rattle.report_texts.specs.Parts.{member_text, numbers_text}
 use Rattle.fixing.specs.declared.rules.FeatureFixes.{FeatureFixes}
 use Rattle.fixing.specs.declared.rules.Fixes.{Fixes}
 use Rattle.grid.specs.Fits.{x_of, y_of}
@@ -15,14 +16,6 @@ use Rattle.sinks.specs.Texts.{list_text, pair_text}
 use Rattle.snapping.specs.NearlyShared.Joined.{moved_in, wide_in}
 use Rattle.snapping.specs.declared.nearly_shared.clusters.Clusters.{Clusters}
 use Rattle.snapping.specs.declared.nearly_shared.counts.VertexCounts.{VertexCounts}
-
--- a number behind its name
-abbrev pub member_text : List ℕ → ℕ → List ℕ
-member_text name n = name ++ decimal n
-
--- a list of numbers
-abbrev pub numbers_text : List ℕ → List ℕ
-numbers_text ns = list_text decimal ns
 
 -- a feature of which something was fixed: its number, and how much
 abbrev pub fixed_text : FeatureFixes → List ℕ

@@ -2,11 +2,11 @@
 use Rattle.std.specs.Prelude.{ℕ, List, Option, option_map}
 use Rattle.shapes.specs.Parts.{spelled_text}
 use Rattle.sinks.specs.Texts.{list_text}
-use Rattle.noshinka.specs.ReportText.{Joins, Shares, place_text, report_of}
-use Rattle.noshinka.specs.declared.report_text.JoinedCounts.{JoinedCounts}
-use Rattle.noshinka.specs.declared.report_text.MapOrigin.{MapOrigin}
-use Rattle.noshinka.specs.declared.report_text.ReportLine.{ReportLine}
-use Rattle.noshinka.specs.declared.report_text.SharedCounts.{SharedCounts}
+use Rattle.report_texts.specs.ReportText.{Joins, Shares, place_text, report_of}
+use Rattle.report_texts.specs.declared.report_line.JoinedCounts.{JoinedCounts}
+use Rattle.report_texts.specs.declared.report_line.MapOrigin.{MapOrigin}
+use Rattle.report_texts.specs.declared.report_line.ReportLine.{ReportLine}
+use Rattle.report_texts.specs.declared.report_line.SharedCounts.{SharedCounts}
 
 -- the place of a map's text, and the name that this gives it
 abbrev pub map_origin : MapOrigin → Option (List ℕ) × ℕ

@@ -1,13 +1,13 @@
 -- Texts of reports.
-use Rattle.std.proofs.Common.{◌≡◌, ◌∙◌, ◌++◌, ◌∷◌, [], ℕ, List, ap, codes, map, refl}
+use Rattle.std.proofs.Common.{◌≡◌, ◌∙◌, ◌++◌, ◌∷◌, [], List, ap, codes, map, refl}
 use Rattle.rounded_maps.specs.declared.building.Rounded.{Rounded}
 use Rattle.rounded_maps.specs.declared.equal.EqualFeatures.{EqualFeatures}
 use Rattle.rounded_maps.specs.declared.files.Origin.{Origin}
 use Rattle.rounded_maps.specs.declared.outcome.Outcome.{Outcome}
 use Rattle.sinks.specs.Texts.{after_commas, bracketed, joined, list_text}
-use Rattle.noshinka.specs.ReportParts.{map_origin, map_origin_text}
-use Rattle.noshinka.specs.ReportText.{Joins, Shares, equal_of, joined_of, origin_of, place_text, report_line, report_of, shared_of}
-use Rattle.noshinka.specs.declared.report_text.MapOrigin.{MapOrigin}
+use Rattle.report_texts.specs.ReportParts.{map_origin, map_origin_text}
+use Rattle.report_texts.specs.ReportText.{Joins, Shares, equal_of, joined_of, origin_of, place_text, report_line, report_of, shared_of}
+use Rattle.report_texts.specs.declared.report_line.MapOrigin.{MapOrigin}
 
 after_map : (ms : List MapOrigin) → after_commas map_origin_text ms ≡ after_commas place_text (map map_origin ms)
 after_map [] = refl

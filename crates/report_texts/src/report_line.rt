@@ -1,60 +1,23 @@
 //! What became of maps, as a JSON object on a line.
-ghost use Rattle.noshinka.specs.ReportParts.{joined_counts, line_text, map_origin, map_origin_text, shared_counts};
-ghost use Rattle.noshinka.specs.ReportText.{counts_text, equal_of, fix_counts, fixed_text, joined_of, joined_text, member_text, numbers_text, origin_of, outcome_text, pair_or_null, position_of, position_text, report_if, report_line, shared_of, shared_text};
+ghost use Rattle.report_texts.specs.Parts.{numbers_text};
+ghost use Rattle.report_texts.specs.ReportParts.{joined_counts, line_text, map_origin, map_origin_text, shared_counts};
+ghost use Rattle.report_texts.specs.ReportText.{counts_text, equal_of, fix_counts, fixed_text, joined_of, joined_text, origin_of, outcome_text, pair_or_null, position_of, position_text, report_if, report_line, shared_of, shared_text};
 ghost use Rattle.shapes.specs.Parts.{spelled_text};
 ghost use Rattle.sinks.specs.InMemory.{kept_seen};
 ghost use Rattle.sinks.specs.Writes.{TookAll};
-ghost use Rattle.std.specs.Fmt.{decimal};
 ghost use Rattle.std.specs.Option.{option_map};
 ghost use Rattle.std.specs.Prelude.{◌≡◌, IfOk, OnOk, map, string_bytes};
 
+use crate::parts::{Digits, Member, Numerals};
 use faults::OutOfMemory;
 use fixing::{FeatureFixes, Fixes};
 use grid::Pos;
-use itoa::Buffer;
 use rounded_maps::{EqualFeatures, Origin, Outcome, Rounded};
 use shapes::Spelled;
 use sinks::written::{Listed, Notation, Pair, Text, Then, Written};
-use sinks::{Kept, Sink, WriteFault, put};
+use sinks::{Kept, Sink, WriteFault};
 use snapping::nearly_shared::{Clusters, VertexCounts};
 use std::alloc::Global;
-
-/// A number in decimal digits.
-#[derive(Clone, Copy)]
-struct Digits(u128);
-
-impl Written for Digits {
-    ghost text = { λ d. decimal d.0 };
-
-    fn write<W: Sink>(&self, sink: &mut W) -> Result<(), WriteFault> {
-        let mut buffer = Buffer::new();
-        put(sink, buffer.format(self.0).as_bytes())
-    }
-}
-
-/// A number behind its name.
-#[derive(Clone, Copy)]
-struct Member<'a>(&'a [u8], u64);
-
-impl<'a> Written for Member<'a> {
-    ghost text = { λ m. member_text m.0.now m.1 };
-
-    fn write<W: Sink>(&self, sink: &mut W) -> Result<(), WriteFault> {
-        Then(Text(self.0), Digits(u128::from(self.1))).write(sink)
-    }
-}
-
-/// Numbers in decimal digits.
-#[derive(Clone, Copy)]
-struct Numerals;
-
-impl Notation<usize> for Numerals {
-    ghost text = { λ _ n. decimal n };
-
-    fn write_value<W: Sink>(&self, value: &usize, sink: &mut W) -> Result<(), WriteFault> {
-        Digits(*value as u128).write(sink)
-    }
-}
 
 /// A feature of which something was fixed: its number, and how much.
 #[derive(Clone, Copy)]
@@ -151,7 +114,7 @@ impl Notation<EqualFeatures> for EqualLists {
 
 /// Where a map is from: the place of its text, and the name that this gives it.
 #[derive(Drop)]
-pub(crate) struct MapOrigin {
+struct MapOrigin {
     text: usize,
     layer: Option<Spelled>,
 }
@@ -341,7 +304,7 @@ fn equal_of(equal: &Option<Vec<EqualFeatures>>) -> &[EqualFeatures]
 
 /// The report of maps, and its line's end.
 #[derive(Clone, Copy)]
-pub(crate) struct ReportLine<'a> {
+struct ReportLine<'a> {
     origins: &'a [MapOrigin],
     outcomes: &'a [Outcome],
     equal: &'a [EqualFeatures],
@@ -377,7 +340,7 @@ fn line_of<'a>(rounded: &'a Rounded, origins: &'a [MapOrigin]) -> ReportLine<'a>
 }
 
 /// Writes the report of maps, and its line's end, where it is asked for.
-pub(crate) fn write_report(
+pub fn write_report(
     alloc: Global,
     reports: bool,
     rounded: &Rounded,

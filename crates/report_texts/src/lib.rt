@@ -1,0 +1,9 @@
+//! Reports as JSON objects: what became of maps that were rounded, and what tests of a map's quality found.
+#![tactic(auto)]
+
+mod parts;
+mod quality_text;
+mod report_line;
+
+pub use quality_text::{QualityTests, write_quality};
+pub use report_line::write_report;

@@ -1,0 +1,249 @@
+//! What tests of a map's quality found, as a JSON object.
+ghost use Rattle.report_texts.specs.QualityParts.{id_lists_text, layer_lists, lists_found, text_or_null};
+ghost use Rattle.report_texts.specs.QualityText.{AreNearIf, IsQualityText, canonical_text, found_text, layer_name, lists_if, lists_of, named_numbers, near_pair, near_text, place_text};
+ghost use Rattle.shapes.specs.Parts.{spelled_text};
+ghost use Rattle.sinks.specs.InMemory.{kept_seen};
+ghost use Rattle.sinks.specs.Writes.{TookAll};
+ghost use Rattle.std.specs.Prelude.{◌≡◌, ℕ, IfOk, List, OnOk, map};
+
+use crate::parts::{Digits, Numerals};
+use compare::quality::{NearPlace, NearVertices, near_vertices, repeated_ids, without_id};
+use faults::OutOfMemory;
+use grid::{Grid, Pos};
+use shapes::Spelled;
+use sinks::written::{Listed, Notation, Pair, Text, Then, Written};
+use sinks::{Kept, Sink, WriteFault};
+use std::alloc::Global;
+use topo::{Layer, Topology};
+
+/// What is asked about a map.
+#[derive(Clone, Copy)]
+pub struct QualityTests {
+    /// Which features have no id, and which one that occurs more than once in their layer.
+    pub ids: bool,
+    /// How many grid steps vertices of different features are apart at most, to be near each other.
+    pub near: Option<u32>,
+    /// How many pairs of these are listed at most.
+    pub listed: u32,
+}
+
+/// A layer's name, the numbers of its features without an id, and of those whose id occurs more than once.
+#[derive(Drop)]
+struct IdLists<'a> {
+    name: &'a Spelled,
+    missing: Vec<usize>,
+    repeated: Vec<usize>,
+}
+
+/// The name of a layer.
+#[derive(Clone, Copy)]
+struct LayerName<'a>(&'a Spelled);
+
+impl<'a> Written for LayerName<'a> {
+    ghost text = { λ n. layer_name (spelled_text n.0.now) };
+
+    fn write<W: Sink>(&self, sink: &mut W) -> Result<(), WriteFault> {
+        Then(Text(b"{\"layer\":"), Text(self.0.spelling().as_bytes())).write(sink)
+    }
+}
+
+/// A list of numbers behind its name.
+#[derive(Clone, Copy)]
+struct NamedNumbers<'a>(&'a [u8], &'a Vec<usize>);
+
+impl<'a> Written for NamedNumbers<'a> {
+    ghost text = { λ n. named_numbers n.0.now n.1.now.items };
+
+    fn write<W: Sink>(&self, sink: &mut W) -> Result<(), WriteFault> {
+        Then(Text(self.0), Listed(self.1.as_slice(), &Numerals)).write(sink)
+    }
+}
+
+/// The lists of a layer.
+#[derive(Clone, Copy)]
+struct ListObjects;
+
+impl<'a> Notation<IdLists<'a>> for ListObjects {
+    ghost text = { λ _ l. id_lists_text l };
+
+    fn write_value<W: Sink>(&self, value: &IdLists<'a>, sink: &mut W) -> Result<(), WriteFault> {
+        let missing = NamedNumbers(b",\"missing\":", &value.missing);
+        let repeated = NamedNumbers(b",\"repeated\":", &value.repeated);
+        let lists = Then(missing, Then(repeated, Text(b"}")));
+        Then(LayerName(value.name), lists).write(sink)
+    }
+}
+
+/// The lists of layers, or null.
+#[derive(Clone, Copy)]
+struct ListsOrNull<'a>(&'a Option<Vec<IdLists<'a>>>);
+
+impl<'a> Written for ListsOrNull<'a> {
+    ghost text = { λ l. text_or_null l.0.now };
+
+    fn write<W: Sink>(&self, sink: &mut W) -> Result<(), WriteFault> {
+        match self.0 {
+            Some(lists) => Listed(lists.as_slice(), &ListObjects).write(sink),
+            None => Text(b"null").write(sink),
+        }
+    }
+}
+
+/// Positions by their absolute numbers.
+#[derive(Clone, Copy)]
+struct Absolute<'a>(&'a Grid, Pos);
+
+impl<'a> Written for Absolute<'a> {
+    ghost text = { λ a. place_text a.0.now a.1 };
+
+    fn write<W: Sink>(&self, sink: &mut W) -> Result<(), WriteFault> {
+        let (x, y) = self.0.to_absolute(self.1);
+        Pair(x, y).write(sink)
+    }
+}
+
+/// Pairs of places, by the absolute numbers of both.
+#[derive(Clone, Copy)]
+struct NearPairs<'a>(&'a Grid);
+
+impl<'a> Notation<(NearPlace, NearPlace)> for NearPairs<'a> {
+    ghost text = { λ g p. near_pair g.0.now p };
+
+    fn write_value<W: Sink>(
+        &self,
+        value: &(NearPlace, NearPlace),
+        sink: &mut W,
+    ) -> Result<(), WriteFault> {
+        let (one, other) = *value;
+        let rest = Then(Text(b","), Then(Absolute(self.0, other.at), Text(b"]")));
+        Then(Text(b"["), Then(Absolute(self.0, one.at), rest)).write(sink)
+    }
+}
+
+/// Vertices that are near each other, or null.
+#[derive(Clone, Copy)]
+struct NearOrNull<'a>(&'a Option<NearVertices>, &'a Grid);
+
+impl<'a> Written for NearOrNull<'a> {
+    ghost text = { λ n. near_text n.1.now n.0.now };
+
+    fn write<W: Sink>(&self, sink: &mut W) -> Result<(), WriteFault> {
+        match self.0 {
+            Some(near) => {
+                let count = Then(Text(b"{\"count\":"), Digits(near.count));
+                let pairs = Listed(near.first.as_slice(), &NearPairs(self.1));
+                Then(count, Then(Text(b",\"pairs\":"), Then(pairs, Text(b"}")))).write(sink)
+            }
+            None => Text(b"null").write(sink),
+        }
+    }
+}
+
+/// Whether a text is canonical.
+#[derive(Clone, Copy)]
+struct Verdict(bool);
+
+impl Written for Verdict {
+    ghost text = { λ v. canonical_text v.0 };
+
+    fn write<W: Sink>(&self, sink: &mut W) -> Result<(), WriteFault> {
+        if self.0 {
+            Text(b"{\"canonical\":true,\"ids\":").write(sink)
+        } else {
+            Text(b"{\"canonical\":false,\"ids\":").write(sink)
+        }
+    }
+}
+
+/// The lists of a layer.
+fn lists_of_layer(alloc: Global, layer: &Layer) -> Result<IdLists<'_>, OutOfMemory>
+    ensures { IfOk result (λ l. layer_lists l ≡ lists_of layer.now) }
+{
+    let missing = without_id(alloc, layer.geometries())?;
+    let repeated = repeated_ids(alloc, layer.geometries())?;
+    Ok(IdLists {
+        name: layer.name(),
+        missing,
+        repeated,
+    })
+}
+
+/// The lists of layers.
+fn lists_of_layers(alloc: Global, layers: &[Layer]) -> Result<Vec<IdLists<'_>>, OutOfMemory>
+    ensures { IfOk result (λ v. map layer_lists v.items ≡ map lists_of layers.now) }
+{
+    let mut lists = Vec::with_capacity(alloc, layers.len())?;
+    for layer in layers {
+        lists.push(lists_of_layer(alloc, layer)?)?;
+    }
+    Ok(lists)
+}
+
+/// The lists of a topology's layers, where they are asked for.
+fn lists_asked(
+    alloc: Global,
+    topology: &Topology,
+    is_asked: bool,
+) -> Result<Option<Vec<IdLists<'_>>>, OutOfMemory>
+    ensures { IfOk result (λ l. lists_found l ≡ lists_if is_asked topology.now) }
+{
+    if is_asked {
+        Ok(Some(lists_of_layers(alloc, topology.layers())?))
+    } else {
+        Ok(None)
+    }
+}
+
+/// The vertices of a topology that are near each other, where they are asked for.
+fn near_asked(
+    alloc: Global,
+    topology: &Topology,
+    tests: &QualityTests,
+) -> Result<Option<NearVertices>, OutOfMemory>
+    ensures { IfOk result (AreNearIf topology.now tests.now.near tests.now.listed) }
+{
+    match tests.near {
+        Some(steps) => Ok(Some(near_vertices(alloc, topology, steps, tests.listed as usize)?)),
+        None => Ok(None),
+    }
+}
+
+/// Writes what was found.
+fn write_found(
+    is_canonical: bool,
+    lists: &Option<Vec<IdLists<'_>>>,
+    grid: &Grid,
+    near: &Option<NearVertices>,
+    kept: &mut Kept,
+) -> Result<(), OutOfMemory>
+    ensures { OnOk result (TookAll (kept_seen kept.old) (kept_seen kept.new) (found_text is_canonical (text_or_null lists.now) grid.now near.now)) }
+{
+    let rest = Then(
+        Text(b",\"near\":"),
+        Then(NearOrNull(near, grid), Text(b"}")),
+    );
+    match Then(Verdict(is_canonical), Then(ListsOrNull(lists), rest)).write(kept) {
+        Ok(()) => Ok(()),
+        Err(_) => Err(OutOfMemory),
+    }
+}
+
+/// Writes what is asked about a topology, of whose text it is known whether it is canonical, as a JSON object: the features
+/// of each layer by their numbers from 0, and pairs of vertices by their absolute numbers. What isn't asked for is null.
+///
+/// # Errors
+/// `OutOfMemory`; a beginning of the text was kept then.
+pub fn write_quality(
+    alloc: Global,
+    topology: &Topology,
+    is_canonical: bool,
+    tests: &QualityTests,
+    kept: &mut Kept,
+) -> Result<(), OutOfMemory>
+    ensures { OnOk result ((t : List ℕ) × IsQualityText tests.now is_canonical topology.now t × TookAll (kept_seen kept.old) (kept_seen kept.new) t) }
+{
+    let lists = lists_asked(alloc, topology, tests.ids)?;
+    let near = near_asked(alloc, topology, tests)?;
+    write_found(is_canonical, &lists, &topology.grid(), &near, kept)?;
+    Ok(())
+}
