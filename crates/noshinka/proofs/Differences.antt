@@ -1,6 +1,6 @@
 -- Refusals of the parts of a difference, as refusals of the difference.
 use Rattle.std.proofs.Common.{◌≡◌, ◌↔◌, ◌≤◌, ◌∙◌, ℕ, Bool, List, Option, nat_eq, Result, Ok, Err, ap, refl, subst, sym, inl, inr}
-use Rattle.outputs.specs.DifferenceText.{LackLayer}
+use Rattle.difference_text.specs.DifferenceText.{LackLayer}
 use Rattle.shapes.specs.Maps.{Layers}
 use Rattle.topo.specs.OfMap.{IsOf}
 use Rattle.topo.specs.Parts.{TopologyParts}

@@ -1,8 +1,8 @@
 -- Why the difference of two texts is not told.
 use Rattle.std.specs.Prelude.{◌≡◌, ◌<◌, ◌≤◌, ◌⊎◌, ℕ, Bool, List, Option, nat_eq}
 use Rattle.grid.specs.Place.{Transform}
-use Rattle.outputs.specs.DifferenceJson.{IsDifferenceText}
-use Rattle.outputs.specs.DifferenceText.{LackLayer}
+use Rattle.difference_text.specs.DifferenceJson.{IsDifferenceText}
+use Rattle.difference_text.specs.DifferenceText.{LackLayer}
 use Rattle.shapes.specs.Maps.{Layers}
 use Rattle.topo.specs.OfMap.{IsOf}
 use Rattle.topo.specs.Parts.{TopologyParts}

@@ -3,11 +3,11 @@ use Rattle.std.specs.Prelude.{◌≡◌, ◌<◌, ◌≤◌, ◌⊎◌, ℕ, All
 use Rattle.faults.specs.Fault.{Pair}
 use Rattle.geojson_io.specs.Features.{faults_of_text as geojson_faults}
 use Rattle.grid.specs.Place.{Transform, IsTransform}
-use Rattle.outputs.specs.FaultReports.{array_text, reported_fault}
-use Rattle.outputs.specs.ReportsOfTexts.{IsReport}
-use Rattle.outputs.specs.declared.fault_reports.features.Format.{Format}
-use Rattle.outputs.specs.declared.fault_reports.features.Format.TheVariants.{GeoJson, Topology}
-use Rattle.outputs.specs.declared.fault_reports.report.FaultReport.{FaultReport}
+use Rattle.fault_reports.specs.FaultReports.{array_text, reported_fault}
+use Rattle.fault_reports.specs.ReportsOfTexts.{IsReport}
+use Rattle.fault_reports.specs.declared.features.Format.{Format}
+use Rattle.fault_reports.specs.declared.features.Format.TheVariants.{GeoJson, Topology}
+use Rattle.fault_reports.specs.declared.report.FaultReport.{FaultReport}
 use Rattle.reading.specs.FaultLists.Found.{pairs_of}
 use Rattle.topo_io.specs.Roots.{faults_of_text}
 use Rattle.noshinka.specs.Why.{IsChoiceRefusal}

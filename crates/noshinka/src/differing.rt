@@ -7,7 +7,7 @@ use crate::making::on_one_grid;
 use crate::options::{flag, scope_named};
 use crate::refusal::CallRefusal;
 use crate::topologies::topology_of;
-use outputs::difference_text::{DifferenceFault, DifferenceOptions, write_difference};
+use difference_text::{DifferenceFault, DifferenceOptions, write_difference};
 use sinks::Kept;
 use std::alloc::Global;
 use topo::Topology;

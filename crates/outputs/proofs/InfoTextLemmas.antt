@@ -11,7 +11,7 @@ use Rattle.sinks.specs.Texts.{joined}
 use Rattle.topo.specs.Parts.{Corners, LayerParts, TopologyParts}
 use Rattle.topo.specs.declared.geom.Geom.{Geom}
 use Rattle.outputs.specs.InfoText.{arc_lines, arc_members, grid_lines, info_json, info_lines, kinds_line, kinds_members, layer_line, layer_object, scales_of, transform_member, translations_of}
-use Rattle.outputs.specs.TextParts.{each_text}
+use Rattle.text_parts.specs.TextParts.{each_text}
 
 -- a layer's line, of its name, its geometries and how many there are
 pub layer_line_is : (l : LayerParts) {n m : List ℕ} {s : Spelled} {gs : List Geom} {k : ℕ} {kinds : Kinds} → n ≡ m → m ≡ spelling_of (spelled_text s) → s ≡ l.name → gs ≡ l.geometries

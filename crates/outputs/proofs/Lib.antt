@@ -1,11 +1,2 @@
 pub mod BuiltTextLemmas
-pub mod DifferenceCounts
-pub mod DifferenceTextLemmas
-pub mod DifferenceWriting
-pub mod FaultPlacesLemmas
-pub mod FaultyFeaturesLemmas
-pub mod FirstReportsLemmas
 pub mod InfoTextLemmas
-pub mod LineColumnsLemmas
-pub mod PlacesLemmas
-pub mod ReportsLemmas

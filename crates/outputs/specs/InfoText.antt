@@ -8,7 +8,7 @@ use Rattle.shapes.specs.Parts.{spelled_text}
 use Rattle.shapes.specs.Spelling.{spelling_of}
 use Rattle.sinks.specs.Texts.{joined}
 use Rattle.topo.specs.Parts.{Corners, LayerParts, TopologyParts}
-use Rattle.outputs.specs.TextParts.{each_text, number_pair}
+use Rattle.text_parts.specs.TextParts.{each_text, number_pair}
 
 -- two pairs of numbers with a comma between them
 abbrev pub pairs_text : ℤ × ℤ → ℤ × ℤ → List ℕ

@@ -1,13 +1,2 @@
 pub mod BuiltText
-pub mod DifferenceText
-pub mod FaultPlaces
-pub mod FaultReports
-pub mod FaultyFeatures
-pub mod FirstReports
-pub mod LineColumns
-pub mod ReportsOfTexts
-pub mod TextParts
 pub mod InfoText
-pub mod DifferenceParts
-pub mod DifferenceLines
-pub mod DifferenceJson

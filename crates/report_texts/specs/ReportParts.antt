@@ -5,7 +5,7 @@ use Rattle.sinks.specs.Texts.{list_text}
 use Rattle.report_texts.specs.ReportText.{Joins, Shares, place_text, report_of}
 use Rattle.report_texts.specs.declared.report_line.JoinedCounts.{JoinedCounts}
 use Rattle.report_texts.specs.declared.report_line.MapOrigin.{MapOrigin}
-use Rattle.report_texts.specs.declared.report_line.ReportLine.{ReportLine}
+use Rattle.report_texts.specs.declared.report_line.RoundingReport.{RoundingReport}
 use Rattle.report_texts.specs.declared.report_line.SharedCounts.{SharedCounts}
 
 -- the place of a map's text, and the name that this gives it
@@ -25,5 +25,5 @@ abbrev pub shared_counts : SharedCounts → Shares
 shared_counts s = (s.shared, (s.near, s.first))
 
 -- the lists and the counts, and the line's end
-abbrev pub line_text : ReportLine → List ℕ
+abbrev pub line_text : RoundingReport → List ℕ
 line_text r = report_of (list_text map_origin_text r.origins.now) r.outcomes.now r.equal.now (joined_counts r.joined) (shared_counts r.shared)

@@ -6,7 +6,7 @@ ghost use Rattle.sinks.specs.InMemory.{kept_seen};
 ghost use Rattle.sinks.specs.Writes.{TookAll};
 ghost use Rattle.std.specs.Prelude.{◌≡◌, ℕ, IfOk, List, OnOk, map};
 
-use crate::parts::{Digits, Numerals};
+use crate::parts::DecimalNumbers;
 use compare::quality::{NearPlace, NearVertices, near_vertices, repeated_ids, without_id};
 use faults::OutOfMemory;
 use grid::{Grid, Pos};
@@ -14,6 +14,7 @@ use shapes::Spelled;
 use sinks::written::{Listed, Notation, Pair, Text, Then, Written};
 use sinks::{Kept, Sink, WriteFault};
 use std::alloc::Global;
+use text_parts::WideDigits;
 use topo::{Layer, Topology};
 
 /// What is asked about a map.
@@ -55,7 +56,7 @@ impl<'a> Written for NamedNumbers<'a> {
     ghost text = { λ n. named_numbers n.0.now n.1.now.items };
 
     fn write<W: Sink>(&self, sink: &mut W) -> Result<(), WriteFault> {
-        Then(Text(self.0), Listed(self.1.as_slice(), &Numerals)).write(sink)
+        Then(Text(self.0), Listed(self.1.as_slice(), &DecimalNumbers)).write(sink)
     }
 }
 
@@ -130,7 +131,7 @@ impl<'a> Written for NearOrNull<'a> {
     fn write<W: Sink>(&self, sink: &mut W) -> Result<(), WriteFault> {
         match self.0 {
             Some(near) => {
-                let count = Then(Text(b"{\"count\":"), Digits(near.count));
+                let count = Then(Text(b"{\"count\":"), WideDigits(near.count));
                 let pairs = Listed(near.first.as_slice(), &NearPairs(self.1));
                 Then(count, Then(Text(b",\"pairs\":"), Then(pairs, Text(b"}")))).write(sink)
             }

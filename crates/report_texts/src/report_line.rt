@@ -8,7 +8,7 @@ ghost use Rattle.sinks.specs.Writes.{TookAll};
 ghost use Rattle.std.specs.Option.{option_map};
 ghost use Rattle.std.specs.Prelude.{◌≡◌, IfOk, OnOk, map, string_bytes};
 
-use crate::parts::{Digits, Member, Numerals};
+use crate::parts::{NamedCount, DecimalNumbers};
 use faults::OutOfMemory;
 use fixing::{FeatureFixes, Fixes};
 use grid::Pos;
@@ -18,6 +18,7 @@ use sinks::written::{Listed, Notation, Pair, Text, Then, Written};
 use sinks::{Kept, Sink, WriteFault};
 use snapping::nearly_shared::{Clusters, VertexCounts};
 use std::alloc::Global;
+use text_parts::{Digits, WideDigits};
 
 /// A feature of which something was fixed: its number, and how much.
 #[derive(Clone, Copy)]
@@ -29,12 +30,12 @@ impl Notation<FeatureFixes> for FixedFeatures {
     fn write_value<W: Sink>(&self, value: &FeatureFixes, sink: &mut W) -> Result<(), WriteFault> {
         let fixes = &value.fixes;
         let first = Then(
-            Digits(value.feature as u128),
-            Then(Member(b",", fixes.closed), Member(b",", fixes.collapsed)),
+            Digits(value.feature),
+            Then(NamedCount(b",", fixes.closed), NamedCount(b",", fixes.collapsed)),
         );
         let rest = Then(
-            Member(b",", fixes.folded),
-            Then(Member(b",", fixes.collections), Member(b",", fixes.lost)),
+            NamedCount(b",", fixes.folded),
+            Then(NamedCount(b",", fixes.collections), NamedCount(b",", fixes.lost)),
         );
         Then(Text(b"["), Then(first, Then(rest, Text(b"]")))).write(sink)
     }
@@ -50,14 +51,14 @@ impl<'a> Written for FixCounts<'a> {
     fn write<W: Sink>(&self, sink: &mut W) -> Result<(), WriteFault> {
         let fixes = self.0;
         let first = Then(
-            Member(b",\"closed\":", fixes.closed),
-            Member(b",\"collapsed\":", fixes.collapsed),
+            NamedCount(b",\"closed\":", fixes.closed),
+            NamedCount(b",\"collapsed\":", fixes.collapsed),
         );
         let rest = Then(
-            Member(b",\"collections\":", fixes.collections),
-            Member(b",\"lost\":", fixes.lost),
+            NamedCount(b",\"collections\":", fixes.collections),
+            NamedCount(b",\"lost\":", fixes.lost),
         );
-        Then(first, Then(Member(b",\"folded\":", fixes.folded), rest)).write(sink)
+        Then(first, Then(NamedCount(b",\"folded\":", fixes.folded), rest)).write(sink)
     }
 }
 
@@ -71,16 +72,16 @@ impl<'a> Written for MapCounts<'a> {
     fn write<W: Sink>(&self, sink: &mut W) -> Result<(), WriteFault> {
         let tally = &self.0.tally;
         let first = Then(
-            Member(b"{\"features\":", self.0.features as u64),
-            Member(b",\"positions\":", tally.positions),
+            NamedCount(b"{\"features\":", self.0.features as u64),
+            NamedCount(b",\"positions\":", tally.positions),
         );
         let moves = Then(
-            Member(b",\"moved\":", tally.moved),
-            Member(b",\"furthest\":", tally.furthest),
+            NamedCount(b",\"moved\":", tally.moved),
+            NamedCount(b",\"furthest\":", tally.furthest),
         );
         let rest = Then(
-            Member(b",\"heights\":", tally.heights),
-            Member(b",\"reals\":", self.0.reals),
+            NamedCount(b",\"heights\":", tally.heights),
+            NamedCount(b",\"reals\":", self.0.reals),
         );
         Then(first, Then(moves, rest)).write(sink)
     }
@@ -108,7 +109,7 @@ impl Notation<EqualFeatures> for EqualLists {
     ghost text = { λ _ e. numbers_text e.features.items };
 
     fn write_value<W: Sink>(&self, value: &EqualFeatures, sink: &mut W) -> Result<(), WriteFault> {
-        Listed(value.features.as_slice(), &Numerals).write(sink)
+        Listed(value.features.as_slice(), &DecimalNumbers).write(sink)
     }
 }
 
@@ -132,7 +133,7 @@ impl Notation<MapOrigin> for MapOrigins {
             None => "null",
         };
         let head = Then(Text(b"{\"layer\":"), Text(layer.as_bytes()));
-        let text = Then(Text(b",\"text\":"), Digits(value.text as u128));
+        let text = Then(Text(b",\"text\":"), Digits(value.text));
         Then(head, Then(text, Text(b"}"))).write(sink)
     }
 }
@@ -242,8 +243,8 @@ impl Written for JoinedCounts {
 
     fn write<W: Sink>(&self, sink: &mut W) -> Result<(), WriteFault> {
         let counts = Then(
-            Member(b",\"joined\":", self.joined as u64),
-            Member(b",\"too_wide\":", self.wide as u64),
+            NamedCount(b",\"joined\":", self.joined as u64),
+            NamedCount(b",\"too_wide\":", self.wide as u64),
         );
         let first = Then(Text(b",\"first_too_wide\":"), PositionOrNull(self.first));
         Then(counts, first).write(sink)
@@ -282,10 +283,10 @@ impl Written for SharedCounts {
     ghost text = { λ s. shared_text (shared_counts s) };
 
     fn write<W: Sink>(&self, sink: &mut W) -> Result<(), WriteFault> {
-        let near = Then(Text(b",\"nearly_shared\":"), Digits(self.near));
+        let near = Then(Text(b",\"nearly_shared\":"), WideDigits(self.near));
         let first = Then(Text(b",\"first_nearly_shared\":"), PairOrNull(self.first));
         Then(
-            Member(b",\"shared\":", self.shared as u64),
+            NamedCount(b",\"shared\":", self.shared as u64),
             Then(near, first),
         )
         .write(sink)
@@ -304,7 +305,7 @@ fn equal_of(equal: &Option<Vec<EqualFeatures>>) -> &[EqualFeatures]
 
 /// The report of maps, and its line's end.
 #[derive(Clone, Copy)]
-struct ReportLine<'a> {
+struct RoundingReport<'a> {
     origins: &'a [MapOrigin],
     outcomes: &'a [Outcome],
     equal: &'a [EqualFeatures],
@@ -312,7 +313,7 @@ struct ReportLine<'a> {
     shared: SharedCounts,
 }
 
-impl<'a> Written for ReportLine<'a> {
+impl<'a> Written for RoundingReport<'a> {
     ghost text = { λ r. line_text r };
 
     fn write<W: Sink>(&self, sink: &mut W) -> Result<(), WriteFault> {
@@ -326,11 +327,11 @@ impl<'a> Written for ReportLine<'a> {
 }
 
 /// The report of maps, of which these are the origins.
-fn line_of<'a>(rounded: &'a Rounded, origins: &'a [MapOrigin]) -> ReportLine<'a>
+fn line_of<'a>(rounded: &'a Rounded, origins: &'a [MapOrigin]) -> RoundingReport<'a>
     requires { map map_origin origins.now ≡ map origin_of rounded.now.origins.items }
     ensures { line_text result ≡ report_line rounded.now }
 {
-    ReportLine {
+    RoundingReport {
         origins,
         outcomes: rounded.outcomes.as_slice(),
         equal: equal_of(&rounded.equal),

@@ -8,7 +8,7 @@ use decimal_topologies::{is_topology, topology_faults};
 use faults::{Fault, FaultKind, OutOfMemory};
 use itoa::Buffer;
 use json::{Error, Scratch, Value};
-use outputs::fault_reports::{FaultReport, Format, LineColumn, reports};
+use fault_reports::{FaultReport, Format, LineColumn, reports};
 use rounded_maps::{RoundingRules, text_faults, texts_of};
 use rounding_options::naming::is_sequence;
 use rounding_options::options::GridOptions;

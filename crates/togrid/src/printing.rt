@@ -4,7 +4,7 @@ use command_line::output::{OUTPUT_BUFFER, Output};
 use command_line::refusal::Refusal;
 use command_line::status::Status;
 use grid::Grid;
-use outputs::fault_reports::{FaultReport, write_lines};
+use fault_reports::{FaultReport, write_lines};
 use rounded_maps::{RoundedFeature, write_collection};
 use sinks::{Buffered, Refused, Sink, WriteFault};
 use std::alloc::Global;

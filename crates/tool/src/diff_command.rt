@@ -4,7 +4,7 @@ use clap::ArgMatches;
 use command_line::files::{Files, input_once, read_named};
 use command_line::refusal::Refusal;
 use command_line::status::Status;
-use outputs::difference_text::{
+use difference_text::{
     Difference, DifferenceFault, DifferenceOptions, find_difference, write_json, write_lines,
 };
 use sinks::Sink;

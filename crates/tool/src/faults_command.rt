@@ -6,7 +6,7 @@ use command_line::refusal::Refusal;
 use command_line::status::Status;
 use faults::OutOfMemory;
 use grid::Grid;
-use outputs::fault_reports::{
+use fault_reports::{
     FaultReport, Format, reports, spell_text, write_first_lines, write_json, write_lines,
 };
 use sinks::{Sink, WriteFault, put};

@@ -1,7 +1,7 @@
 //! What a run says of its progress on standard error, where it is asked to.
 use command_line::files::{FileFault, Files};
 use itoa::{Buffer, Integer};
-use outputs::difference_text::ChangeCounts;
+use difference_text::ChangeCounts;
 use query::count_arcs;
 use sinks::{Sink, WriteFault, put};
 use std::alloc::Global;

@@ -1,0 +1,3 @@
+pub mod DifferenceCounts
+pub mod DifferenceTextLemmas
+pub mod DifferenceWriting

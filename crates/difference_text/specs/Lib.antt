@@ -1,0 +1,4 @@
+pub mod DifferenceJson
+pub mod DifferenceLines
+pub mod DifferenceParts
+pub mod DifferenceText

@@ -1,0 +1,120 @@
+//! Parts that lines and the JSON object share.
+ghost use Rattle.difference_text.specs.DifferenceParts.{direction_words, has_other_id, kind_name, layer_name, text_or, told_layer, told_of};
+ghost use Rattle.query.specs.AnswerTexts.{id_value_text};
+ghost use Rattle.sinks.specs.Writes.{TookAll, TookPart};
+ghost use Rattle.std.specs.Option.{option_copied};
+ghost use Rattle.std.specs.Prelude.{◌≡◌, OnErr, OnOk};
+ghost use Rattle.std.specs.Str.{bytes_eq};
+
+use crate::difference::{Difference, LayerChanges, geometries_at, layer_at};
+use crate::geometry::{has_lines, kind_of};
+use text_parts::Chars;
+use shapes::Id;
+use sinks::written::{Number, Text, Written};
+use sinks::{Sink, WriteFault};
+use topo::{Body, Geom, Layer, Topology};
+
+/// A difference and the topologies that it is of.
+#[derive(Clone, Copy)]
+pub(crate) struct View<'a> {
+    pub(crate) difference: &'a Difference,
+    pub(crate) old: &'a Topology,
+    pub(crate) new: &'a Topology,
+}
+
+/// A layer of a difference: its name as JSON, and its old and new geometries.
+#[derive(Clone, Copy)]
+pub(crate) struct LayerView<'a> {
+    pub(crate) changes: &'a LayerChanges,
+    pub(crate) name: &'a str,
+    pub(crate) olds: &'a [Geom],
+    pub(crate) news: &'a [Geom],
+    pub(crate) is_keyed: bool,
+}
+
+/// The name of a layer as JSON, or that of another one where it is missing.
+fn name_of<'a>(layer: Option<&'a Layer>, other: Option<&'a Layer>) -> &'a str
+    ensures { result.now ≡ layer_name (option_copied layer.entry) (option_copied other.entry) }
+{
+    match layer {
+        Some(layer) => layer.name().spelling(),
+        None => match other {
+            Some(other) => other.name().spelling(),
+            None => "",
+        },
+    }
+}
+
+impl<'a> View<'a> {
+    pub(crate) fn layer(&self, changes: &'a LayerChanges) -> LayerView<'a>
+        ensures { told_of result ≡ told_layer self.now.difference.now.is_keyed self.now.old.now self.now.new.now changes.now }
+    {
+        let old = self.old.layers();
+        let new = self.new.layers();
+        let old_layer = layer_at(old, changes.layers.old);
+        let new_layer = layer_at(new, changes.layers.new);
+        LayerView {
+            changes,
+            name: name_of(old_layer, new_layer),
+            olds: geometries_at(old, changes.layers.old),
+            news: geometries_at(new, changes.layers.new),
+            is_keyed: self.difference.is_keyed,
+        }
+    }
+}
+
+/// An id as JSON; `null` where there is none.
+#[derive(Clone, Copy)]
+pub(crate) struct IdText<'a>(pub(crate) &'a Id);
+
+impl<'a> Written for IdText<'a> {
+    ghost text = { λ i. id_value_text i.0.now };
+
+    fn write<W: Sink>(&self, sink: &mut W) -> Result<(), WriteFault> {
+        match self.0 {
+            Id::None => Text(b"null").write(sink),
+            Id::Number(number) => Number(*number).write(sink),
+            Id::Text(text) => Text(text.spelling().as_bytes()).write(sink),
+        }
+    }
+}
+
+/// A compact text, or other words where it is missing.
+#[derive(Clone, Copy)]
+pub(crate) struct TextOr<'a>(pub(crate) &'a str, pub(crate) &'a Option<String>);
+
+impl<'a> Written for TextOr<'a> {
+    ghost text = { λ t. text_or t.0.now t.1.now };
+
+    fn write<W: Sink>(&self, sink: &mut W) -> Result<(), WriteFault> {
+        match self.1 {
+            Some(text) => Text(text.as_bytes()).write(sink),
+            None => Chars(self.0).write(sink),
+        }
+    }
+}
+
+/// Whether two ids differ.
+pub(crate) fn has_other_id(old: &Id, new: &Id) -> bool
+    ensures { result ≡ has_other_id old.now new.now }
+{
+    !(*old == *new)
+}
+
+/// Whether two geometries are of one kind.
+pub(crate) fn is_one_kind(old: &Body, new: &Body) -> bool
+    ensures { result ≡ bytes_eq (kind_name old.now) (kind_name new.now) }
+{
+    kind_of(old) == kind_of(new)
+}
+
+/// The words for lines or rings of which some run the other way.
+pub(crate) fn direction_words(body: &Body) -> &'static str
+    ensures { result.now ≡ direction_words body.now }
+{
+    if has_lines(body) {
+        "line direction only"
+    } else {
+        "ring direction only"
+    }
+}

@@ -1,5 +1,0 @@
-use Rattle.outputs.proofs.DifferenceWriting.{other_ids}
-use Rattle.outputs.proofs.difference_text.parts.has_other_id.Goals as goal
-
-pub returns : goal.returns
-returns c = other_ids c.args.old.now c.args.new.now c.eq.result c.eq.ensures

@@ -1,7 +1,0 @@
-use Rattle.std.proofs.Common.{◌≡◌}
-use Rattle.serde_json.specs.View.{members_view}
-use Rattle.outputs.specs.FaultyFeatures.{first_fraction}
-use Rattle.outputs.proofs.fault_reports.features.first_fraction.Given as goal
-
-abbrev pub invariant-loop-name : goal.invariant-loop-name
-invariant-loop-name l = first_fraction (members_view l.fn.members.entries) ≡ first_fraction (members_view l.name-iterator)

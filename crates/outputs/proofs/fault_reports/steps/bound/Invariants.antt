@@ -1,5 +1,0 @@
-use Rattle.std.proofs.Common.{◌-◌}
-use Rattle.outputs.proofs.fault_reports.steps.bound.Given as goal
-
-abbrev pub decreases-search : goal.decreases-search
-decreases-search l = l.high - l.low

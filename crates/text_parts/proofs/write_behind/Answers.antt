@@ -1,0 +1,12 @@
+use Rattle.std.proofs.Common.{ap}
+use Rattle.sinks.proofs.Left.{left_step, left_part}
+use Rattle.text_parts.specs.TextParts.{behind_texts}
+use Rattle.text_parts.proofs.write_behind.Goals as goal
+
+pub loop-value-preserved : goal.loop-value-preserved
+loop-value-preserved g c =
+    left_step _ c.loop-value.invariant (ap (behind_texts c.args.separator.now c.loop-value.is_behind (g.N.Notation.text c.args.notation.now)) c.in-Some.ensures.cases.0) c.in-Ok.ensures.whole
+
+pub returns-in-Err-clause-part : goal.returns-in-Err-clause-part
+returns-in-Err-clause-part g c =
+    left_part _ c.loop-value.invariant (ap (behind_texts c.args.separator.now c.loop-value.is_behind (g.N.Notation.text c.args.notation.now)) c.in-Some.ensures.cases.0) c.in-Err.ensures.part
