@@ -34,7 +34,7 @@ import refusing
 from refusing import TOP
 
 CRATES = ["grid", "faults", "sinks", "lines", "shapes", "geojson_io", "chains", "topo", "topo_io", "query", "refine", "merging",
-          "split_arcs", "heal_arcs", "outputs", "tool"]
+          "split_arcs", "heal_arcs", "difference_text", "fault_reports", "outputs", "tool"]
 REFUSED = "refused_memory"
 GROUPS = ["parts", "arcs", "maps", "edits"]
 WITHOUT = "without_memory"
@@ -57,14 +57,14 @@ EXCEPTIONS = {
 MODULES = {
     "sinks::path_text": "is of the command: tests/refused_memory.py",
     "outputs::info_text": "is of the command: tests/refused_memory.py",
-    "outputs::difference_text": "is of the command: tests/refused_memory.py",
-    "outputs::difference_text::difference": "is of the command: tests/refused_memory.py",
-    "outputs::difference_text::object": "is of the command: tests/refused_memory.py",
-    "outputs::difference_text::text": "is of the command: tests/refused_memory.py",
-    "outputs::fault_reports::line_columns": "is of the command: tests/refused_memory.py",
-    "outputs::fault_reports::report": "is of the command: tests/refused_memory.py",
-    "outputs::fault_reports::shared_text": "is of the command: tests/refused_memory.py",
-    "outputs::fault_reports::written": "is of the command: tests/refused_memory.py",
+    "difference_text": "is of the command: tests/refused_memory.py",
+    "difference_text::difference": "is of the command: tests/refused_memory.py",
+    "difference_text::object": "is of the command: tests/refused_memory.py",
+    "difference_text::text": "is of the command: tests/refused_memory.py",
+    "fault_reports::line_columns": "is of the command: tests/refused_memory.py",
+    "fault_reports::report": "is of the command: tests/refused_memory.py",
+    "fault_reports::shared_text": "is of the command: tests/refused_memory.py",
+    "fault_reports::written": "is of the command: tests/refused_memory.py",
     "topo_io::reader::geometry": "has parts of topo_io::read",
     "topo_io::reader::position": "has parts of topo_io::read",
     "topo_io::reader::transform": "has parts of topo_io::read",

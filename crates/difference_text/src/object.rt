@@ -8,13 +8,11 @@ ghost use Rattle.std.specs.Prelude.{◌≡◌, ◌||◌, OnErr, OnOk, false, sli
 use crate::difference::{Difference, FeatureChange, LayerChanges, Single};
 use crate::geometry::{GeometryChange, kind_of};
 use crate::members::MemberChange;
-use crate::parts::{
-    IdText, LayerView, TextOr, View, direction_words, has_other_id, is_one_kind,
-};
-use text_parts::{Chars, Digits, If, OneOf, SeparatedValues, Worded, has_some};
+use crate::parts::{IdText, LayerView, TextOr, View, direction_words, has_other_id, is_one_kind};
 use shapes::Id;
 use sinks::written::{Each, Notation, Text, Then, Written};
 use sinks::{Sink, WriteFault};
+use text_parts::{Chars, Digits, If, OneOf, SeparatedValues, Worded, has_some};
 use topo::{Body, Geom, Topology};
 
 /// The members key, where features pair by a property, and layer.

@@ -8,10 +8,10 @@ ghost use Rattle.std.specs.Str.{bytes_eq};
 
 use crate::difference::{Difference, LayerChanges, geometries_at, layer_at};
 use crate::geometry::{has_lines, kind_of};
-use text_parts::Chars;
 use shapes::Id;
 use sinks::written::{Number, Text, Written};
 use sinks::{Sink, WriteFault};
+use text_parts::Chars;
 use topo::{Body, Geom, Layer, Topology};
 
 /// A difference and the topologies that it is of.

@@ -4,19 +4,15 @@ ghost use Rattle.difference_text.specs.DifferenceParts.{told_layer, told_of};
 ghost use Rattle.sinks.specs.Writes.{TookAll, TookPart};
 ghost use Rattle.std.specs.Prelude.{OnErr, OnOk};
 
-use crate::difference::{
-    ChangeCounts, Difference, FeatureChange, LayerChanges, Single,
-};
+use crate::difference::{ChangeCounts, Difference, FeatureChange, LayerChanges, Single};
 use crate::geometry::{GeometryChange, kind_of};
 use crate::members::MemberChange;
-use crate::parts::{
-    IdText, LayerView, TextOr, View, direction_words, has_other_id, is_one_kind,
-};
-use text_parts::{Chars, Digits, If, InTurn, OneOf, SeparatedValues, Worded, has_some};
+use crate::parts::{IdText, LayerView, TextOr, View, direction_words, has_other_id, is_one_kind};
 use compare::LayerPair;
 use shapes::Id;
 use sinks::written::{Notation, Text, Then, Written};
 use sinks::{Sink, WriteFault};
+use text_parts::{Chars, Digits, If, InTurn, OneOf, SeparatedValues, Worded, has_some};
 use topo::{Body, Geom, Topology};
 
 /// The line of a layer that only one topology has.

@@ -6,11 +6,11 @@ ghost use Rattle.std.specs.Prelude.{◌≡◌, ◌++◌, OnErr, OnOk, codes, dec
 
 use crate::counts::FaultCounts;
 use crate::written::KindName;
-use text_parts::{Chars, Digits, If, InTurn, Worded};
 use faults::FaultKind;
 use sinks::path_text::KindNumber;
 use sinks::written::{Notation, Text, Then, Written};
 use sinks::{Sink, WriteFault};
+use text_parts::{Chars, Digits, If, InTurn, Worded};
 
 /// The kinds of errors, ascending by number.
 fn all_kinds() -> [FaultKind; 21]

@@ -11,11 +11,11 @@ use crate::more::write_more;
 use crate::remedies::remedy;
 use crate::report::FaultReport;
 use crate::shared_text::SharedText;
-use text_parts::{Chars, Digits, If, Worded};
 use faults::FaultKind;
 use sinks::path_text::{KindNumber, write_path};
 use sinks::written::{Bracketed, Text, Then, Written};
 use sinks::{Sink, WriteFault, put};
+use text_parts::{Chars, Digits, If, Worded};
 
 /// The name of a kind of error.
 #[derive(Clone, Copy)]

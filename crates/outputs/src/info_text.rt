@@ -3,10 +3,10 @@ ghost use Rattle.outputs.specs.InfoText.{arc_lines, arc_members, bbox_line, bbox
 ghost use Rattle.sinks.specs.Writes.{TookAll, TookPart};
 ghost use Rattle.std.specs.Prelude.{OnErr, OnOk};
 
-use text_parts::{Digits, If, InTurn, OneOf, TwoNumbers, WideDigits, Worded};
 use query::{ArcCounts, Kinds, count_arcs, count_kinds};
 use sinks::written::{Each, Notation, Text, Then, Written};
 use sinks::{Sink, WriteFault};
+use text_parts::{Digits, If, InTurn, OneOf, TwoNumbers, WideDigits, Worded};
 use topo::{Layer, Topology};
 
 /// Two pairs of numbers, with a comma between them.

@@ -8,7 +8,7 @@ ghost use Rattle.sinks.specs.Writes.{TookAll};
 ghost use Rattle.std.specs.Option.{option_map};
 ghost use Rattle.std.specs.Prelude.{◌≡◌, IfOk, OnOk, map, string_bytes};
 
-use crate::parts::{NamedCount, DecimalNumbers};
+use crate::parts::{DecimalNumbers, NamedCount};
 use faults::OutOfMemory;
 use fixing::{FeatureFixes, Fixes};
 use grid::Pos;
@@ -31,11 +31,17 @@ impl Notation<FeatureFixes> for FixedFeatures {
         let fixes = &value.fixes;
         let first = Then(
             Digits(value.feature),
-            Then(NamedCount(b",", fixes.closed), NamedCount(b",", fixes.collapsed)),
+            Then(
+                NamedCount(b",", fixes.closed),
+                NamedCount(b",", fixes.collapsed),
+            ),
         );
         let rest = Then(
             NamedCount(b",", fixes.folded),
-            Then(NamedCount(b",", fixes.collections), NamedCount(b",", fixes.lost)),
+            Then(
+                NamedCount(b",", fixes.collections),
+                NamedCount(b",", fixes.lost),
+            ),
         );
         Then(Text(b"["), Then(first, Then(rest, Text(b"]")))).write(sink)
     }

@@ -1,7 +1,7 @@
 //! Texts as they come, and what may help where one is refused.
 use command_line::refusal::{Refusal, Remedy};
-use faults::{Fault, FaultKind, OutOfMemory};
 use fault_reports::{Format, reports};
+use faults::{Fault, FaultKind, OutOfMemory};
 use rounded_maps::texts_of;
 use std::alloc::Global;
 

@@ -4,11 +4,11 @@ use clap::ArgMatches;
 use command_line::files::{Files, read_all};
 use command_line::refusal::Refusal;
 use command_line::status::Status;
-use faults::OutOfMemory;
-use grid::Grid;
 use fault_reports::{
     FaultReport, Format, reports, spell_text, write_first_lines, write_json, write_lines,
 };
+use faults::OutOfMemory;
+use grid::Grid;
 use sinks::{Sink, WriteFault, put};
 use std::alloc::Global;
 

@@ -1,7 +1,7 @@
 //! What a run says of its progress on standard error, where it is asked to.
 use command_line::files::{FileFault, Files};
-use itoa::{Buffer, Integer};
 use difference_text::ChangeCounts;
+use itoa::{Buffer, Integer};
 use query::count_arcs;
 use sinks::{Sink, WriteFault, put};
 use std::alloc::Global;
