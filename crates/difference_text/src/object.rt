@@ -228,9 +228,9 @@ impl<'a> Notation<FeatureChange> for ChangeObjects<'a> {
 
 /// The objects of the layers of a name, behind others where there are some before.
 #[derive(Clone, Copy)]
-struct LayerObjects<'a>(bool, LayerView<'a>);
+struct LayerChangeObjects<'a>(bool, LayerView<'a>);
 
-impl<'a> Written for LayerObjects<'a> {
+impl<'a> Written for LayerChangeObjects<'a> {
     ghost text = { λ o. layer_objects o.0 (told_of o.1) };
 
     fn write<W: Sink>(&self, sink: &mut W) -> Result<(), WriteFault> {
@@ -293,7 +293,7 @@ fn write_objects<W: Sink>(
     let mut left = layers;
     while let Some((changes, after)) = left.split_first() {
         let layer = view.layer(changes);
-        match LayerObjects(is_behind, layer).write(sink) {
+        match LayerChangeObjects(is_behind, layer).write(sink) {
             Ok(()) => left = after,
             Err(fault) => return Err(fault),
         }
@@ -321,9 +321,9 @@ fn is_either(one: bool, other: bool) -> bool
 
 /// The names of the layers that only the new topology has, or only the old one.
 #[derive(Clone, Copy)]
-struct Names<'a>(View<'a>, bool);
+struct LayerNames<'a>(View<'a>, bool);
 
-impl<'a> Written for Names<'a> {
+impl<'a> Written for LayerNames<'a> {
     ghost text = { λ n. names_text (told_layer n.0.difference.now.is_keyed n.0.old.now n.0.new.now) n.1 false n.0.difference.now.layers.items };
 
     fn write<W: Sink>(&self, sink: &mut W) -> Result<(), WriteFault> {
@@ -377,10 +377,10 @@ pub fn write_json<W: Sink>(
         Worded("]},\"removed\":", Digits(counts.removed)),
         Text(b"}"),
     );
-    let removed = Then(Text(b"],\"removed\":["), Then(Names(view, false), end));
+    let removed = Then(Text(b"],\"removed\":["), Then(LayerNames(view, false), end));
     let layers = Then(
         Text(b"],\"layers\":{\"added\":["),
-        Then(Names(view, true), removed),
+        Then(LayerNames(view, true), removed),
     );
     let objects = Then(
         Text(b",\"differences\":["),

@@ -233,9 +233,9 @@ impl<'a> Notation<FeatureChange> for ChangeLines<'a> {
 
 /// The lines of the layers of a name.
 #[derive(Clone, Copy)]
-struct LayerLines<'a>(LayerView<'a>);
+struct LayerChangeLines<'a>(LayerView<'a>);
 
-impl<'a> Written for LayerLines<'a> {
+impl<'a> Written for LayerChangeLines<'a> {
     ghost text = { λ l. layer_lines (told_of l.0) };
 
     fn write<W: Sink>(&self, sink: &mut W) -> Result<(), WriteFault> {
@@ -260,7 +260,7 @@ impl<'a> Notation<LayerChanges> for LayersAsLines<'a> {
     ghost text = { λ v l. layer_lines (told_layer v.0.difference.now.is_keyed v.0.old.now v.0.new.now l) };
 
     fn write_value<W: Sink>(&self, value: &LayerChanges, sink: &mut W) -> Result<(), WriteFault> {
-        LayerLines(self.0.layer(value)).write(sink)
+        LayerChangeLines(self.0.layer(value)).write(sink)
     }
 }
 

@@ -18,7 +18,7 @@ pub(crate) struct PassedPoints {
 
 /// The vertices of a geometry. Both lists are sorted, each item once.
 #[derive(Drop)]
-struct Vertices {
+struct BodyVertices {
     /// The numbers of its arcs.
     arcs: Vec<usize>,
     /// The ends of its arcs, or its points.
@@ -45,8 +45,8 @@ impl PassedPoints {
         old: &Body,
         new: &Body,
     ) -> Result<GeometryChange, AllocError> {
-        let olds = Vertices::of(alloc, table, old)?;
-        let news = Vertices::of(alloc, table, new)?;
+        let olds = BodyVertices::of(alloc, table, old)?;
+        let news = BodyVertices::of(alloc, table, new)?;
         let gone = self.count_alone(table, &olds, &news);
         let new_ones = self.count_alone(table, &news, &olds);
         if gone == 0 && new_ones == 0 && kind_of(old) == kind_of(new) {
@@ -59,7 +59,7 @@ impl PassedPoints {
     }
 
     /// How many vertices one has, and not the other.
-    fn count_alone(&self, table: &ArcTable, one: &Vertices, other: &Vertices) -> usize {
+    fn count_alone(&self, table: &ArcTable, one: &BodyVertices, other: &BodyVertices) -> usize {
         let inside = count_inside(table, &one.arcs, &other.arcs);
         let all = inside.saturating_add(count_missing(&one.places, &other.places));
         let on_others = self.count_passed(&one.places, &other.arcs);
@@ -79,16 +79,16 @@ impl PassedPoints {
     }
 }
 
-impl Vertices {
+impl BodyVertices {
     /// Those of a geometry.
-    fn of(alloc: Global, table: &ArcTable, body: &Body) -> Result<Vertices, AllocError> {
+    fn of(alloc: Global, table: &ArcTable, body: &Body) -> Result<BodyVertices, AllocError> {
         let arcs = arcs_of(alloc, body)?;
         let mut places = Vec::new(alloc);
         push_ends(table, &arcs, &mut places)?;
         push_each(body.points(), &mut places)?;
         places.sort_unstable();
         places.dedup();
-        Ok(Vertices { arcs, places })
+        Ok(BodyVertices { arcs, places })
     }
 }
 

@@ -6,12 +6,12 @@ use Rattle.std.specs.Result.{IfErr, IfOk}
 use Rattle.std.specs.declared.result.Result.{Result}
 use Rattle.std.specs.declared.result.Result.TheVariants.{Ok, Err}
 use Rattle.noshinka.specs.Ends.{EndsWith, IsDone, IsEnd, IsRefused, IsVerdict, Says}
-use Rattle.noshinka.specs.declared.outcome.Outcome.{Outcome}
+use Rattle.noshinka.specs.declared.outcome.CallOutcome.{CallOutcome}
 use Rattle.noshinka.specs.declared.refusal.CallRefusal.{CallRefusal}
 use Rattle.noshinka.specs.declared.refusal.CallRefusal.TheVariants.{BadGrid, BadName, BadChoice, NoId, Text, OtherGrid, NoText, BadPlan, NoLayer, OutOfMemory}
 
 -- a refusal ends with one of three statuses
-pub says_why : (r : CallRefusal) (o : Outcome) (old new : List ℕ) → IsRefused r o old new → (o.status ≡ 2) ⊎ ((o.status ≡ 4) ⊎ (o.status ≡ 5))
+pub says_why : (r : CallRefusal) (o : CallOutcome) (old new : List ℕ) → IsRefused r o old new → (o.status ≡ 2) ⊎ ((o.status ≡ 4) ⊎ (o.status ≡ 5))
 says_why BadGrid o old new h = inl h.status
 says_why (BadName place) o old new h = inl h.status
 says_why BadChoice o old new h = inl h.status
@@ -52,7 +52,7 @@ not_refused n (inl e) h = omega arith
 not_refused n (inr e) h = omega arith
 
 -- an answer of that text, in the room or longer than the room
-pub ends_done : (Answer : List ℕ → Type 0) (Why : CallRefusal → Type 0) (text : List ℕ) (o : Outcome) (old new : List ℕ) → Answer text → IsDone text o old new → EndsWith Answer Why o old new
+pub ends_done : (Answer : List ℕ → Type 0) (Why : CallRefusal → Type 0) (text : List ℕ) (o : CallOutcome) (old new : List ℕ) → Answer text → IsDone text o old new → EndsWith Answer Why o old new
 ends_done Answer Why text o old new is d = record {
   statuses = done_statuses o.status d.statuses;
   done = λ s. record {
@@ -71,7 +71,7 @@ ends_done Answer Why text o old new is d = record {
 }
 
 -- a refusal with its reason
-pub ends_refused : (Answer : List ℕ → Type 0) (Why : CallRefusal → Type 0) (r : CallRefusal) (o : Outcome) (old new : List ℕ) → Why r → IsRefused r o old new → EndsWith Answer Why o old new
+pub ends_refused : (Answer : List ℕ → Type 0) (Why : CallRefusal → Type 0) (r : CallRefusal) (o : CallOutcome) (old new : List ℕ) → Why r → IsRefused r o old new → EndsWith Answer Why o old new
 ends_refused Answer Why r o old new why says = record {
   statuses = why_statuses o.status (says_why r o old new says);
   done = λ s. absurd (not_done o.status (says_why r o old new says) s);
@@ -81,7 +81,7 @@ ends_refused Answer Why r o old new why says = record {
 }
 
 -- what was made, or why nothing was
-pub ends : (Answer : List ℕ → Type 0) (Why : CallRefusal → Type 0) (made : Result (Vec ℕ Global) CallRefusal) (o : Outcome) (old new : List ℕ) →
+pub ends : (Answer : List ℕ → Type 0) (Why : CallRefusal → Type 0) (made : Result (Vec ℕ Global) CallRefusal) (o : CallOutcome) (old new : List ℕ) →
     IfOk made (λ t. Answer t.items) → IfErr made Why → IfOk made (λ t. IsDone t.items o old new) → IfErr made (λ r. IsRefused r o old new) → EndsWith Answer Why o old new
 ends Answer Why (Ok t) o old new is why done says = ends_done Answer Why t.items o old new is done
 ends Answer Why (Err r) o old new is why done says = ends_refused Answer Why r o old new why says
@@ -100,7 +100,7 @@ other : (n m k : ℕ) → n ≡ m → ¬ (m ≡ k) → n ≡ k → ⊥
 other n m k e apart f = apart (sym e ∙ f)
 
 -- what was found, or why nothing was found
-pub verdicts : (Yes No : Type 0) (Why : CallRefusal → Type 0) (found : Result Bool CallRefusal) (o : Outcome) (old new : List ℕ) →
+pub verdicts : (Yes No : Type 0) (Why : CallRefusal → Type 0) (found : Result Bool CallRefusal) (o : CallOutcome) (old new : List ℕ) →
     IfOk found (Says Yes No) → IfErr found Why → IfOk found (λ b. IsEnd (cond b 0 1) 0 0 o) → IfErr found (λ r. IsRefused r o old new) → IsVerdict Yes No Why o old new
 verdicts Yes No Why (Ok true) o old new is why said says = record {
   statuses = inl said.status;

@@ -2,10 +2,10 @@
 use Rattle.std.specs.Prelude.{ℕ, List, map}
 use Rattle.grid.specs.Place.{Transform, scaling, transform}
 use Rattle.noshinka.specs.declared.borrowed.GridNumbers.{GridNumbers}
-use Rattle.noshinka.specs.declared.borrowed.Source.{Source}
+use Rattle.noshinka.specs.declared.borrowed.SourceText.{SourceText}
 
 -- the bytes of each name and text
-abbrev pub borrowed_sources : List Source → List (List ℕ × List ℕ)
+abbrev pub borrowed_sources : List SourceText → List (List ℕ × List ℕ)
 borrowed_sources sources = map (λ s. (s.layer.now, s.text.now)) sources
 
 -- the transform of some numbers

@@ -22,7 +22,7 @@ pub struct GridNumbers {
 /// A GeoJSON text, and the name of the layer that its features are put into.
 #[repr(C)]
 #[derive(Drop)]
-pub struct Source<'a> {
+pub struct SourceText<'a> {
     pub layer: &'a [u8],
     pub text: &'a [u8],
 }
@@ -54,7 +54,7 @@ pub(crate) fn name_of(place: usize, name: &[u8]) -> Result<&str, CallRefusal>
 /// The name and the text of each source, borrowed.
 pub(crate) fn borrow_sources<'a>(
     alloc: Global,
-    sources: &[Source<'a>],
+    sources: &[SourceText<'a>],
 ) -> Result<Vec<(&'a str, &'a [u8])>, CallRefusal>
     ensures texts { IfOk result (λ v. borrowed_texts v.items ≡ borrowed_sources sources.now) }
     ensures refused { IfErr result (IsBadSource (borrowed_sources sources.now)) }

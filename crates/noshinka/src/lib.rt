@@ -40,7 +40,7 @@ mod topologies;
 mod way_back;
 
 pub use back_options::WayBackOptions;
-pub use borrowed::{GridNumbers, Source};
+pub use borrowed::{GridNumbers, SourceText};
 pub use differing::DiffOptions;
 use differing::diff;
 pub use editing::Change;
@@ -50,7 +50,7 @@ use fault_texts::faults;
 use making::{build, merge, remove};
 pub use map_quality::QualityOptions;
 use map_quality::quality;
-pub use outcome::Outcome;
+pub use outcome::CallOutcome;
 pub use questions::{MeshOptions, NeighborsOptions};
 use questions::{feature, info, mesh, neighbors};
 use room::{answer, verdict};
@@ -74,9 +74,9 @@ pub extern "C" fn noshinka_version() -> u32
 pub extern "C" fn noshinka_build(
     alloc: Global,
     grid: &GridNumbers,
-    sources: &[Source<'_>],
+    sources: &[SourceText<'_>],
     room: &mut [u8],
-) -> Outcome
+) -> CallOutcome
     ensures { EndsWith (IsTextOfTexts (grid_of grid.now) (borrowed_sources sources.now)) (IsBuildRefusal (grid_of grid.now) (borrowed_sources sources.now)) result room.old room.new }
 {
     answer(alloc, build(alloc, grid, sources), room)
@@ -84,7 +84,7 @@ pub extern "C" fn noshinka_build(
 
 /// Puts the canonical text of the union of the features of topologies' texts into the room.
 #[unsafe(no_mangle)]
-pub extern "C" fn noshinka_merge(alloc: Global, texts: &[&[u8]], room: &mut [u8]) -> Outcome
+pub extern "C" fn noshinka_merge(alloc: Global, texts: &[&[u8]], room: &mut [u8]) -> CallOutcome
     ensures { EndsWith (IsMergeOf (lent_texts texts.now) (range_with_len 0 (length texts.now))) (IsMergeRefusal (lent_texts texts.now)) result room.old room.new }
 {
     answer(alloc, merge(alloc, texts), room)
@@ -98,7 +98,7 @@ pub extern "C" fn noshinka_remove(
     text: &[u8],
     removed: &[u8],
     room: &mut [u8],
-) -> Outcome
+) -> CallOutcome
     ensures { EndsWith (IsRemoval text.now removed.now) (IsRemoveRefusal text.now removed.now) result room.old room.new }
 {
     answer(alloc, remove(alloc, text, removed), room)
@@ -106,7 +106,7 @@ pub extern "C" fn noshinka_remove(
 
 /// Says whether a topology's text is canonical: status 0, or 1 if it isn't. The room is for the path of a fault alone.
 #[unsafe(no_mangle)]
-pub extern "C" fn noshinka_check(alloc: Global, text: &[u8], room: &mut [u8]) -> Outcome
+pub extern "C" fn noshinka_check(alloc: Global, text: &[u8], room: &mut [u8]) -> CallOutcome
     ensures { IsVerdict (IsCanonical text.now) (IsNotCanonical text.now) (IsTextRefusal 0 text.now) result room.old room.new }
 {
     verdict(alloc, check(alloc, text), room)
@@ -121,7 +121,7 @@ pub extern "C" fn noshinka_faults(
     format: u32,
     grid: &GridNumbers,
     room: &mut [u8],
-) -> Outcome
+) -> CallOutcome
     ensures { EndsWith (IsFaultsAnswer format (grid_of grid.now) text.now) (IsListRefusal format (grid_of grid.now)) result room.old room.new }
 {
     answer(alloc, faults(alloc, text, format, grid), room)
@@ -134,7 +134,7 @@ pub extern "C" fn noshinka_feature(
     text: &[u8],
     layer: &[u8],
     room: &mut [u8],
-) -> Outcome
+) -> CallOutcome
     ensures { EndsWith (IsFeatureText text.now layer.now) (IsQuestionRefusal ⊥ text.now (Some layer.now)) result room.old room.new }
 {
     answer(alloc, feature(alloc, text, layer), room)
@@ -147,7 +147,7 @@ pub extern "C" fn noshinka_mesh(
     options: &MeshOptions<'_>,
     text: &[u8],
     room: &mut [u8],
-) -> Outcome
+) -> CallOutcome
     ensures { EndsWith (IsMeshText options.now text.now) (IsMeshRefusal options.now text.now) result room.old room.new }
 {
     answer(alloc, mesh(alloc, options, text), room)
@@ -161,7 +161,7 @@ pub extern "C" fn noshinka_neighbors(
     text: &[u8],
     layer: &[u8],
     room: &mut [u8],
-) -> Outcome
+) -> CallOutcome
     ensures { EndsWith (IsNeighborsAnswer options.now text.now layer.now) (IsNeighborsRefusal options.now text.now layer.now) result room.old room.new }
 {
     answer(alloc, neighbors(alloc, options, text, layer), room)
@@ -170,7 +170,12 @@ pub extern "C" fn noshinka_neighbors(
 /// Puts what is in a topology's text into the room, as `topotool info` prints it: as lines if `json` is 0, as JSON if it
 /// is 1.
 #[unsafe(no_mangle)]
-pub extern "C" fn noshinka_info(alloc: Global, text: &[u8], json: u32, room: &mut [u8]) -> Outcome
+pub extern "C" fn noshinka_info(
+    alloc: Global,
+    text: &[u8],
+    json: u32,
+    room: &mut [u8],
+) -> CallOutcome
     ensures { EndsWith (IsInfoAnswer text.now json) (IsQuestionRefusal (2 ≤ json) text.now None) result room.old room.new }
 {
     answer(alloc, info(alloc, text, json), room)
@@ -182,9 +187,9 @@ pub extern "C" fn noshinka_info(alloc: Global, text: &[u8], json: u32, room: &mu
 pub extern "C" fn noshinka_round(
     alloc: Global,
     options: &RoundOptions<'_>,
-    sources: &[Source<'_>],
+    sources: &[SourceText<'_>],
     room: &mut [u8],
-) -> Outcome
+) -> CallOutcome
     ensures { EndsWith (IsRoundAnswer options.now (borrowed_sources sources.now)) (IsRoundRefusal options.now (borrowed_sources sources.now)) result room.old room.new }
 {
     answer(alloc, round(alloc, options, sources), room)
@@ -198,7 +203,7 @@ pub extern "C" fn noshinka_edit(
     text: &[u8],
     changes: &[Change<'_>],
     room: &mut [u8],
-) -> Outcome
+) -> CallOutcome
     ensures { EndsWith (IsEditAnswer text.now changes.now) (IsEditRefusal text.now changes.now) result room.old room.new }
 {
     answer(alloc, edit(alloc, text, changes), room)
@@ -212,7 +217,7 @@ pub extern "C" fn noshinka_back(
     options: &WayBackOptions<'_>,
     text: &[u8],
     room: &mut [u8],
-) -> Outcome
+) -> CallOutcome
     ensures { EndsWith (IsBackAnswer options.now text.now) (IsBackRefusal options.now text.now) result room.old room.new }
 {
     answer(alloc, back(alloc, options, text), room)
@@ -226,7 +231,7 @@ pub extern "C" fn noshinka_quality(
     options: &QualityOptions,
     text: &[u8],
     room: &mut [u8],
-) -> Outcome
+) -> CallOutcome
     ensures { EndsWith (IsQualityAnswer options.now text.now) (IsQualityRefusal options.now text.now) result room.old room.new }
 {
     answer(alloc, quality(alloc, options, text), room)
@@ -234,7 +239,7 @@ pub extern "C" fn noshinka_quality(
 
 /// Puts the name of the fault with a number into the room.
 #[unsafe(no_mangle)]
-pub extern "C" fn noshinka_fault_name(alloc: Global, fault: u32, room: &mut [u8]) -> Outcome
+pub extern "C" fn noshinka_fault_name(alloc: Global, fault: u32, room: &mut [u8]) -> CallOutcome
     ensures { EndsWith (IsFaultName fault) (IsNameless fault) result room.old room.new }
 {
     answer(alloc, fault_name(alloc, fault), room)
@@ -249,7 +254,7 @@ pub extern "C" fn noshinka_diff(
     text: &[u8],
     other: &[u8],
     room: &mut [u8],
-) -> Outcome
+) -> CallOutcome
     ensures { EndsWith (IsDiffAsked options.now text.now other.now) (IsDiffRefusal options.now text.now other.now) result room.old room.new }
 {
     answer(alloc, diff(alloc, text, other, options), room)

@@ -7,7 +7,7 @@ ghost use Rattle.noshinka.specs.Why.{IsBuildRefusal, IsMergeRefusal, IsOtherGrid
 ghost use Rattle.std.specs.List.{range_with_len};
 ghost use Rattle.std.specs.Prelude.{◌≡◌, ◌↔◌, IfErr, IfOk, length, true};
 
-use crate::borrowed::{GridNumbers, Source, borrow_sources, grid_within};
+use crate::borrowed::{GridNumbers, SourceText, borrow_sources, grid_within};
 use crate::refusal::CallRefusal;
 use crate::topologies::topology_of;
 use outputs::built_text::build_borrowed;
@@ -20,7 +20,7 @@ use topo::Topology;
 pub(crate) fn build(
     alloc: Global,
     grid: &GridNumbers,
-    sources: &[Source<'_>],
+    sources: &[SourceText<'_>],
 ) -> Result<Vec<u8>, CallRefusal>
     ensures built { IfOk result (λ t. IsTextOfTexts (grid_of grid.now) (borrowed_sources sources.now) t.items) }
     ensures refused { IfErr result (IsBuildRefusal (grid_of grid.now) (borrowed_sources sources.now)) }

@@ -4,7 +4,7 @@
 /// the room is too small.
 #[repr(C)]
 #[derive(Clone, Copy, PartialEq, Eq, Debug)]
-pub struct Outcome {
+pub struct CallOutcome {
     /// 0 done, 1 not canonical, 2 wrong usage, 4 a text is refused, 5 out of memory, 6 the room is too small.
     pub status: u32,
     /// The fault's number, from 1 to 21, or 0 where there is none.

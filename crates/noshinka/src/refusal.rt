@@ -6,7 +6,7 @@ ghost use Rattle.noshinka.specs.Why.{IsFaultAt, of_build};
 ghost use Rattle.noshinka.specs.declared.refusal.CallRefusal.TheVariants as refusal;
 ghost use Rattle.std.specs.Prelude.{◌≡◌, ◌⊎◌, IfOk, map};
 
-use crate::outcome::Outcome;
+use crate::outcome::CallOutcome;
 use crate::room::put_text;
 use decimals::topology::DecimalFault;
 use faults::{Fault, FaultKind, OutOfMemory, Step};
@@ -66,7 +66,7 @@ impl CallRefusal {
     }
 
     /// Puts the path of a fault at the front of the room, if it fits, and says how the call ended.
-    pub(crate) fn outcome(&self, alloc: Global, room: &mut [u8]) -> Outcome
+    pub(crate) fn outcome(&self, alloc: Global, room: &mut [u8]) -> CallOutcome
         ensures { IsRefused self.now result room.old room.new }
     {
         match self {
@@ -93,12 +93,12 @@ fn number(kind: FaultKind) -> u32
     u32::from(kind.number())
 }
 
-pub(crate) fn outcome_of(status: u32, fault: u32, place: usize) -> Outcome
+pub(crate) fn outcome_of(status: u32, fault: u32, place: usize) -> CallOutcome
     ensures status { result.status ≡ status }
     ensures fault { result.fault ≡ fault }
     ensures place { result.place ≡ place }
 {
-    Outcome {
+    CallOutcome {
         status,
         fault,
         place,
@@ -106,7 +106,7 @@ pub(crate) fn outcome_of(status: u32, fault: u32, place: usize) -> Outcome
     }
 }
 
-fn out_of_memory() -> Outcome
+fn out_of_memory() -> CallOutcome
     ensures status { result.status ≡ 5 }
     ensures fault { result.fault ≡ 20 }
 {
@@ -125,13 +125,13 @@ fn text_of_path(alloc: Global, path: &[Step]) -> Result<Vec<u8>, OutOfMemory>
 }
 
 /// Puts the path of the fault of the text at a place at the front of the room, if it fits.
-fn put_fault(alloc: Global, place: usize, fault: &Fault, room: &mut [u8]) -> Outcome
+fn put_fault(alloc: Global, place: usize, fault: &Fault, room: &mut [u8]) -> CallOutcome
     ensures { ((result.status ≡ 5) × (result.fault ≡ 20)) ⊎ IsFaultOutcome place fault.now result room.old room.new }
 {
     match text_of_path(alloc, fault.path.as_slice()) {
         Ok(text) => {
             let _is_put = put_text(text.as_slice(), room);
-            Outcome {
+            CallOutcome {
                 status: 4,
                 fault: number(fault.kind),
                 place,

@@ -2,7 +2,7 @@
 ghost use Rattle.noshinka.specs.Ends.{IsDone, IsEnd, IsRefused};
 ghost use Rattle.std.specs.Prelude.{◌≡◌, ◌↔◌, ◌<◌, ◌≤◌, IfErr, IfOk, IsTrue, cond, length, take};
 
-use crate::outcome::Outcome;
+use crate::outcome::CallOutcome;
 use crate::refusal::{CallRefusal, outcome_of};
 use std::alloc::Global;
 
@@ -21,11 +21,11 @@ pub(crate) fn put_text(text: &[u8], room: &mut [u8]) -> bool
 }
 
 /// Puts an answer at the front of the room, if it fits.
-fn put_answer(text: &[u8], room: &mut [u8]) -> Outcome
+fn put_answer(text: &[u8], room: &mut [u8]) -> CallOutcome
     ensures { IsDone text.now result room.old room.new }
 {
     let is_put = put_text(text, room);
-    Outcome {
+    CallOutcome {
         status: if is_put { 0 } else { 6 },
         fault: if is_put { 0 } else { 21 },
         place: 0,
@@ -34,7 +34,11 @@ fn put_answer(text: &[u8], room: &mut [u8]) -> Outcome
 }
 
 /// Puts what was made at the front of the room, or says why nothing was made.
-pub(crate) fn answer(alloc: Global, made: Result<Vec<u8>, CallRefusal>, room: &mut [u8]) -> Outcome
+pub(crate) fn answer(
+    alloc: Global,
+    made: Result<Vec<u8>, CallRefusal>,
+    room: &mut [u8],
+) -> CallOutcome
     ensures done { IfOk made (λ t. IsDone t.items result room.old room.new) }
     ensures refused { IfErr made (λ r. IsRefused r result room.old room.new) }
 {
@@ -45,7 +49,11 @@ pub(crate) fn answer(alloc: Global, made: Result<Vec<u8>, CallRefusal>, room: &m
 }
 
 /// Says what was found, or why nothing was found.
-pub(crate) fn verdict(alloc: Global, found: Result<bool, CallRefusal>, room: &mut [u8]) -> Outcome
+pub(crate) fn verdict(
+    alloc: Global,
+    found: Result<bool, CallRefusal>,
+    room: &mut [u8],
+) -> CallOutcome
     ensures said { IfOk found (λ b. IsEnd (cond b 0 1) 0 0 result) }
     ensures refused { IfErr found (λ r. IsRefused r result room.old room.new) }
 {

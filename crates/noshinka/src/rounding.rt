@@ -9,7 +9,7 @@ ghost use Rattle.std.specs.Prelude.{◌≡◌, ◌++◌, IfErr, IfOk, false, map
 ghost use Rattle.topo.specs.OfMap.{seen_parts};
 ghost use Rattle.topo_io.specs.TopologyText.{topology_text};
 
-use crate::borrowed::{Source, borrow_sources};
+use crate::borrowed::{SourceText, borrow_sources};
 use crate::refusal::CallRefusal;
 use crate::round_options::{RoundOptions, are_choices};
 use crate::rules::{names_of, rules_of, units_of};
@@ -17,7 +17,7 @@ use faults::OutOfMemory;
 use grid::Grid;
 use report_texts::write_report;
 use rounded_maps::{
-    BuildRules, Rounded, RoundedFeature, RoundedMap, Source as FileSource, build_maps, round_maps,
+    BuildRules, Rounded, RoundedFeature, RoundedMap, Source, build_maps, round_maps,
     write_collection,
 };
 use sinks::written::Written;
@@ -86,7 +86,7 @@ fn all_features(alloc: Global, maps: Vec<RoundedMap>) -> Result<Vec<RoundedFeatu
 fn features_text(
     alloc: Global,
     names: &[&str],
-    files: Vec<FileSource<&[u8]>>,
+    files: Vec<Source<&[u8]>>,
     rules: &BuildRules<'_>,
     reports: bool,
 ) -> Result<Vec<u8>, CallRefusal>
@@ -104,7 +104,7 @@ fn features_text(
 fn topology_text_of(
     alloc: Global,
     names: &[&str],
-    files: Vec<FileSource<&[u8]>>,
+    files: Vec<Source<&[u8]>>,
     rules: &BuildRules<'_>,
     reports: bool,
 ) -> Result<Vec<u8>, CallRefusal>
@@ -133,12 +133,12 @@ fn files_in<'a>(
     texts: &[(&'a str, &'a [u8])],
     is_sequence: bool,
     is_named: bool,
-) -> Result<Vec<FileSource<&'a [u8]>>, OutOfMemory>
+) -> Result<Vec<Source<&'a [u8]>>, OutOfMemory>
     ensures { IfOk result (λ v. files_of (λ b. b.now) v.items ≡ map (λ s. file_of is_sequence is_named s.1) (borrowed_texts texts.now)) }
 {
     let mut files = Vec::with_capacity(alloc, texts.len())?;
     for text in texts {
-        files.push(FileSource {
+        files.push(Source {
             bytes: text.1,
             is_sequence,
             is_named,
@@ -153,7 +153,7 @@ fn round_sources(
     alloc: Global,
     options: &RoundOptions<'_>,
     rules: &BuildRules<'_>,
-    sources: &[Source<'_>],
+    sources: &[SourceText<'_>],
 ) -> Result<Vec<u8>, CallRefusal>
     ensures made { IfOk result (λ t. IsMade (nat_eq options.now.format 1) (nat_eq options.now.report 1) rules.now (names_in (borrowed_sources sources.now)) (files_as options.now (borrowed_sources sources.now)) t.items) }
     ensures refused { IfErr result (IsSourcesRefusal options.now rules.now (borrowed_sources sources.now)) }
@@ -175,7 +175,7 @@ fn round_sources(
 pub(crate) fn round(
     alloc: Global,
     options: &RoundOptions<'_>,
-    sources: &[Source<'_>],
+    sources: &[SourceText<'_>],
 ) -> Result<Vec<u8>, CallRefusal>
     ensures made { IfOk result (λ t. IsRoundAnswer options.now (borrowed_sources sources.now) t.items) }
     ensures refused { IfErr result (IsRoundRefusal options.now (borrowed_sources sources.now)) }

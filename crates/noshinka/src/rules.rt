@@ -105,7 +105,7 @@ pub(crate) fn scales_of<'a>(
 
 /// The names that options have.
 #[derive(Drop)]
-pub(crate) struct Names<'a> {
+pub(crate) struct RuleNames<'a> {
     id: Option<&'a str>,
     layer: Option<&'a str>,
     scales: Vec<Scale<'a>>,
@@ -116,21 +116,21 @@ pub(crate) struct Names<'a> {
 pub(crate) fn names_of<'a>(
     alloc: Global,
     options: &RoundOptions<'a>,
-) -> Result<Names<'a>, CallRefusal>
+) -> Result<RuleNames<'a>, CallRefusal>
     ensures names { IfOk result (AreNames options.now) }
     ensures bad { IfErr result (IsNamesRefusal options.now) }
 {
     let id = name_if(options.ids == 1, options.id)?;
     let layer = name_if(options.scope == 1, options.layer)?;
     let scales = scales_of(alloc, options.scales)?;
-    Ok(Names { id, layer, scales })
+    Ok(RuleNames { id, layer, scales })
 }
 
 /// The rules that options stand for.
 pub(crate) fn rules_of<'r>(
     options: &RoundOptions<'_>,
     units: &Units,
-    names: &'r Names<'_>,
+    names: &'r RuleNames<'_>,
 ) -> BuildRules<'r>
     requires chosen { are_choices options.now ≡ true }
     requires units { AreUnits options.now.step.now options.now.unit.now units.now }
