@@ -11,7 +11,7 @@ use Rattle.faults.specs.declared.fault.FaultKind.{FaultKind}
 use Rattle.grid.specs.declared.pos.Pos.{Pos}
 use Rattle.reading.specs.Fault.{under}
 use Rattle.decimal_faults.proofs.Items.{Values}
-use Rattle.decimal_topologies.specs.Seen.{seen_arcs}
+use Rattle.decimal_arcs.specs.Seen.{seen_arcs}
 use Rattle.decimal_topologies.specs.Stitching.{along_if, ends, number_faults, numbers_faults, ref_of}
 use Rattle.decimal_topologies.specs.declared.numbers.ArcRef.{ArcRef}
 use Rattle.decimal_topologies.proofs.Tables.{Table, seen-length}

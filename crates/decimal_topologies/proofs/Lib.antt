@@ -1,8 +1,3 @@
-pub mod Snapped
-pub mod Positions
-pub mod Table
-pub mod Fits
-pub mod Numerals
 pub mod Tables
 pub mod Judging
 pub mod Stitches

@@ -36,18 +36,18 @@ use Rattle.decimal_faults.proofs.Order.{beyond_each, each_ascends, either, heigh
 use Rattle.decimal_topologies.specs.Features.{feature_faults, feature_members_faults, has_features, layer_faults}
 use Rattle.decimal_topologies.specs.Geometries.{TopologyParts, body_faults, body_name, each_geometry_faults, form_faults, form_under, geometries_faults, geometries_in, geometry_faults}
 use Rattle.decimal_topologies.specs.Layers.{Named, chosen_faults, layers_faults, layers_if_object, members_in_order, objects_faults, with_members}
-use Rattle.decimal_topologies.specs.Arcs.{arc_faults, arc_items_faults, arcs_faults, faults_if, steps_faults}
-use Rattle.decimal_topologies.specs.Places as place
-use Rattle.decimal_topologies.specs.Places.{both_of, fault_in, first_sums, next_sums, position_faults, step_faults}
-use Rattle.decimal_topologies.specs.Transforms as transform
-use Rattle.decimal_topologies.specs.Transforms.{quantization_of, transform_faults}
+use Rattle.decimal_arcs.specs.Arcs.{arc_faults, arc_items_faults, arcs_faults, faults_if, steps_faults}
+use Rattle.decimal_arcs.specs.Places as place
+use Rattle.decimal_arcs.specs.Places.{both_of, fault_in, first_sums, next_sums, position_faults, step_faults}
+use Rattle.decimal_arcs.specs.Transforms as transform
+use Rattle.decimal_arcs.specs.Transforms.{quantization_of, transform_faults}
 use Rattle.decimal_topologies.specs.Roots.{chosen, content_of, if_array, if_there as arcs_if_there, parts_in, topology_faults, topology_members_faults, used_in}
-use Rattle.decimal_topologies.specs.declared.axes.Reached.{Reached}
-use Rattle.decimal_topologies.specs.declared.places.Sums.{Sums}
-use Rattle.decimal_topologies.specs.Seen.{Arcs}
+use Rattle.decimal_arcs.specs.declared.axes.Reached.{Reached}
+use Rattle.decimal_arcs.specs.declared.places.RunningSums.{RunningSums}
+use Rattle.decimal_arcs.specs.Seen.{Arcs}
 use Rattle.decimal_topologies.specs.Stitching.{along, along_if, are_known, arcs_outline_faults, begins, ends, items_faults, joint_faults, number_faults, numbers_faults, positions_along, ref_of, stitched_faults}
 use Rattle.decimal_topologies.specs.declared.numbers.ArcRef.{ArcRef}
-use Rattle.decimal_topologies.specs.declared.place.Quantization.{Quantization}
+use Rattle.decimal_arcs.specs.declared.place.Quantization.{Quantization}
 use Rattle.decimal_topologies.specs.declared.rules.TopologyRules.{TopologyRules}
 use Rattle.decimal_topologies.proofs.Nested.{each_is}
 
@@ -58,7 +58,7 @@ fault_ascends (Err k) = ascending_here k
 fault_ascends (Ok r) = ascending_none
 
 module _ (q : Quantization) where
-  two_ascend : (s : Sums) (js : Items) → IsAscending (place.numbers_faults q s js)
+  two_ascend : (s : RunningSums) (js : Items) → IsAscending (place.numbers_faults q s js)
   two_ascend s no_items = ascending_here kind.NotTwo
   two_ascend s (item x no_items) = ascending_here kind.NotTwo
   two_ascend s (item x (item y js)) =
@@ -72,7 +72,7 @@ module _ (q : Quantization) where
       (ascending_more (index 1) ys hs (fault_ascends (both_of q s x y).y) (beyond_each height_faults 1 2 js (omega arith)) (each_ascends height_faults height_ascends 2 js))))
       (ascending_here kind.NotTwo)
 
-  step_ascends : (s : Sums) (j : Json) → IsAscending (step_faults q s j)
+  step_ascends : (s : RunningSums) (j : Json) → IsAscending (step_faults q s j)
   step_ascends s j = go (as_array j)
     where
       go : (o : Option Items) → IsAscending (array_faults (place.numbers_faults q s) o)
@@ -81,12 +81,12 @@ module _ (q : Quantization) where
 
   -- ---- arcs
 
-  beyond_steps : (s : Sums) (i j : ℕ) (js : Items) → i < j → IsBeyond (index i) (steps_faults q s j js)
+  beyond_steps : (s : RunningSums) (i j : ℕ) (js : Items) → i < j → IsBeyond (index i) (steps_faults q s j js)
   beyond_steps s i j no_items less = beyond_none (index i)
   beyond_steps s i j (item k js) less =
       beyond_append (index i) (under (index j) (step_faults q s k)) _ (beyond_under (index i) (index j) (step_faults q s k) (sym (nat_cmp_is i j Less less))) (beyond_steps (next_sums q s k) i (j + 1) js (omega arith))
 
-  steps_ascend : (s : Sums) (i : ℕ) (js : Items) → IsAscending (steps_faults q s i js)
+  steps_ascend : (s : RunningSums) (i : ℕ) (js : Items) → IsAscending (steps_faults q s i js)
   steps_ascend s i no_items = ascending_none
   steps_ascend s i (item j js) = ascending_more (index i) (step_faults q s j) _ (step_ascends s j) (beyond_steps (next_sums q s j) i (i + 1) js (omega arith)) (steps_ascend (next_sums q s j) (i + 1) js)
 

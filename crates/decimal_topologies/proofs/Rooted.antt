@@ -18,13 +18,13 @@ use Rattle.reading.specs.FaultLists.Found.{pairs_of}
 use Rattle.reading.specs.Parts.{named, of_type, typed_faults}
 use Rattle.reading.proofs.Faultless.{first_none, second_none, under_none, unless_none}
 use Rattle.decimal_faults.specs.Parts.{member_faults, type_text}
-use Rattle.decimal_topologies.specs.Arcs.{arcs_faults, arcs_of}
+use Rattle.decimal_arcs.specs.Arcs.{arcs_faults, arcs_of}
 use Rattle.decimal_topologies.specs.Layers.{chosen_faults}
-use Rattle.decimal_topologies.specs.Places.{count_of}
+use Rattle.decimal_arcs.specs.Places.{count_of}
 use Rattle.decimal_topologies.specs.Roots.{chosen, content_faults, content_of, if_array, if_there, parts_in, topology_faults, topology_members_faults, used_in}
-use Rattle.decimal_topologies.specs.Seen.{Arcs}
-use Rattle.decimal_topologies.specs.Transforms.{quantization_of, transform_faults}
-use Rattle.decimal_topologies.specs.declared.place.Quantization.{Quantization}
+use Rattle.decimal_arcs.specs.Seen.{Arcs}
+use Rattle.decimal_arcs.specs.Transforms.{quantization_of, transform_faults}
+use Rattle.decimal_arcs.specs.declared.place.Quantization.{Quantization}
 use Rattle.decimal_topologies.specs.declared.rules.TopologyRules.{TopologyRules}
 use Rattle.decimal_topologies.proofs.Faulty.{object_none, object_some}
 

@@ -28,10 +28,10 @@ use Rattle.decimal_faults.specs.declared.outline.Outline.{Outline}
 use Rattle.decimal_faults.specs.declared.outline.Outline.TheVariants.{Line, Ring}
 use Rattle.decimal_faults.proofs.SoundParts.{all_both}
 use Rattle.decimal_topologies.specs.Geometries.{AreLines, AreShapes, HasGeometries, IsGeometry, IsLine, IsOne, IsShape, TopologyParts, body_faults, body_name, content_faults, each_geometry_faults, form_of, geometries_faults, geometry_faults, point_faults, split_if, taken}
-use Rattle.decimal_topologies.specs.Placed.{IsPlaced}
-use Rattle.decimal_topologies.specs.Places.{position_faults}
+use Rattle.decimal_arcs.specs.Placed.{IsPlaced}
+use Rattle.decimal_arcs.specs.Places.{position_faults}
 use Rattle.decimal_topologies.specs.Stitching.{IsStitched, are_known, arcs_outline_faults, items_faults, stitched_faults}
-use Rattle.decimal_topologies.specs.declared.place.Quantization.{Quantization}
+use Rattle.decimal_arcs.specs.declared.place.Quantization.{Quantization}
 use Rattle.decimal_topologies.proofs.Faulty.{by_form, form_object, object_some}
 use Rattle.decimal_topologies.proofs.Nested.{each_is, geometry_is, list_is}
 

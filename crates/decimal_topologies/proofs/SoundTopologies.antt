@@ -18,7 +18,7 @@ use Rattle.decimal_topologies.specs.Geometries.{TopologyParts}
 use Rattle.decimal_topologies.specs.Laws.{AreLayersLeft, TopologiesAreSound}
 use Rattle.decimal_topologies.specs.Layers.{AreChosenLayers, AreNamedLayers, Named, chosen_faults, layers_faults, layers_if_object, members_in_order}
 use Rattle.decimal_topologies.specs.Roots.{AreLayersOn, HaveLayers, chosen, content_of, if_array, if_there, parts_in, topology_members_faults}
-use Rattle.decimal_topologies.specs.Transforms.{quantization_of}
+use Rattle.decimal_arcs.specs.Transforms.{quantization_of}
 use Rattle.decimal_topologies.specs.declared.objects.TopologyLayer.{TopologyLayer}
 use Rattle.decimal_topologies.specs.declared.rules.TopologyRules.{TopologyRules}
 use Rattle.decimal_topologies.proofs.Faulty.{object_some}

@@ -9,10 +9,10 @@ use Rattle.json.specs.declared.value.Value.{Value}
 use Rattle.grid.specs.declared.pos.Pos.{Pos}
 use Rattle.decimal_faults.proofs.Items.{Values}
 use Rattle.decimal_maps.specs.declared.tally.Tally.{Tally}
-use Rattle.decimal_topologies.specs.Seen.{seen_arcs}
+use Rattle.decimal_arcs.specs.Seen.{seen_arcs}
 use Rattle.decimal_topologies.specs.Stitching.{behind, places_at, positions_along, stitched, stitched_behind}
-use Rattle.decimal_topologies.specs.Tallies.{with_place, with_places}
-use Rattle.decimal_topologies.specs.declared.place.Place.{Place}
+use Rattle.decimal_arcs.specs.Tallies.{with_place, with_places}
+use Rattle.decimal_arcs.specs.declared.place.Place.{Place}
 use Rattle.decimal_topologies.proofs.Tables.{Table, dropped}
 
 abbrev pub positions : List Place → List Pos

@@ -26,12 +26,12 @@ use Rattle.decimal_faults.specs.declared.outline.Outline.TheVariants.{Line, Ring
 use Rattle.decimal_maps.specs.Arrays.{ArrayMeans}
 use Rattle.decimal_maps.specs.Geometries.{kind_of}
 use Rattle.decimal_maps.specs.declared.tally.Tally.{Tally}
-use Rattle.decimal_topologies.specs.Placed.{IsPlaced}
-use Rattle.decimal_topologies.specs.Places.{position_faults}
-use Rattle.decimal_topologies.specs.Seen.{Arcs, seen_arcs}
+use Rattle.decimal_arcs.specs.Placed.{IsPlaced}
+use Rattle.decimal_arcs.specs.Places.{position_faults}
+use Rattle.decimal_arcs.specs.Seen.{Arcs, seen_arcs}
 use Rattle.decimal_topologies.specs.Stitching.{IsStitched, arcs_outline_faults}
 use Rattle.decimal_topologies.specs.declared.geometry.Topology.{Topology}
-use Rattle.decimal_topologies.specs.declared.place.Quantization.{Quantization}
+use Rattle.decimal_arcs.specs.declared.place.Quantization.{Quantization}
 
 -- what the geometries of a topology refer to: how its numbers become positions, and its arcs
 pub record TopologyParts : Type 0 where

@@ -1,10 +1,3 @@
-pub mod Seen
-pub mod Tallies
-pub mod Axes
-pub mod Places
-pub mod Placed
-pub mod Arcs
-pub mod Transforms
 pub mod Stitching
 pub mod Geometries
 pub mod Features

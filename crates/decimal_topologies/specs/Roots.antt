@@ -11,13 +11,13 @@ use Rattle.fixing.specs.declared.rules.FixingRules.{FixingRules}
 use Rattle.reading.specs.Fault.{here, under, unless_faulty}
 use Rattle.reading.specs.Parts.{named, of_type, typed_faults}
 use Rattle.decimal_faults.specs.Parts.{member_faults, object_faults, type_text}
-use Rattle.decimal_topologies.specs.Arcs.{arcs_faults, arcs_of}
+use Rattle.decimal_arcs.specs.Arcs.{arcs_faults, arcs_of}
 use Rattle.decimal_topologies.specs.Geometries.{TopologyParts}
 use Rattle.decimal_topologies.specs.Layers.{AreChosenLayers, Named, chosen_faults, members_in_order}
-use Rattle.decimal_topologies.specs.Places.{count_of}
-use Rattle.decimal_topologies.specs.Transforms.{quantization_of, transform_faults}
+use Rattle.decimal_arcs.specs.Places.{count_of}
+use Rattle.decimal_arcs.specs.Transforms.{quantization_of, transform_faults}
 use Rattle.decimal_topologies.specs.Used.{used_arcs}
-use Rattle.decimal_topologies.specs.declared.place.Quantization.{Quantization}
+use Rattle.decimal_arcs.specs.declared.place.Quantization.{Quantization}
 use Rattle.decimal_topologies.specs.declared.objects.TopologyLayer.{TopologyLayer}
 use Rattle.decimal_topologies.specs.declared.rules.TopologyRules.{TopologyRules}
 

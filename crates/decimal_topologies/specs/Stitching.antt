@@ -16,9 +16,9 @@ use Rattle.decimal_faults.specs.Outlines.{unfixed_as}
 use Rattle.decimal_faults.specs.Parts.{array_faults}
 use Rattle.decimal_faults.specs.declared.outline.Outline.{Outline}
 use Rattle.decimal_maps.specs.declared.tally.Tally.{Tally}
-use Rattle.decimal_topologies.specs.Seen.{Arcs}
-use Rattle.decimal_topologies.specs.Tallies.{with_places}
-use Rattle.decimal_topologies.specs.declared.place.Place.{Place}
+use Rattle.decimal_arcs.specs.Seen.{Arcs}
+use Rattle.decimal_arcs.specs.Tallies.{with_places}
+use Rattle.decimal_arcs.specs.declared.place.Place.{Place}
 use Rattle.decimal_topologies.specs.declared.numbers.ArcRef.{ArcRef}
 
 -- ---- numbers of arcs

@@ -1,7 +1,7 @@
 //! The coordinates and the arcs of geometries.
 ghost use Rattle.decimal_faults.specs.Parts.{list_faults};
 ghost use Rattle.decimal_topologies.specs.Geometries.{IsShapeOf, body_faults, body_name as named_body, outline_of as outline_as, parts_of, point_faults};
-ghost use Rattle.decimal_topologies.specs.Places.{position_faults};
+ghost use Rattle.decimal_arcs.specs.Places.{position_faults};
 ghost use Rattle.fixing.specs.declared.rules.FixingRules.{FixingRules as Rules};
 ghost use Rattle.json.specs.Value.{value_view};
 ghost use Rattle.reading.specs.FaultLists.Found.{pairs_of};
@@ -9,8 +9,8 @@ ghost use Rattle.reading.specs.declared.geometry.GeometryType.TheVariants as kin
 ghost use Rattle.std.specs.Prelude.{◌≡◌, ◌≢◌, [], IfOk, Err};
 
 use crate::geometry::Topology;
-use crate::place::Quantization;
 use crate::stitching::StitchedTo;
+use decimal_arcs::place::Quantization;
 use decimal_faults::coordinates::is_empty;
 use decimal_faults::lists::ListOf;
 use decimal_faults::outline::Outline;

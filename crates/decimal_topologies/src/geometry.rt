@@ -8,7 +8,7 @@ ghost use Rattle.reading.specs.FaultLists.Found.{pairs_of};
 ghost use Rattle.std.specs.Prelude.{◌≡◌, ◌≢◌, ◌++◌, [], List, IfOk, OnOk, Err, Ok, Some, codes};
 
 use crate::bodies::{BodyOf, body_name};
-use crate::place::{Place, Quantization};
+use decimal_arcs::place::{Place, Quantization};
 use decimal_faults::geometry::{GeometryForm, form_named};
 use decimal_faults::lists::{items_of, keep};
 use decimal_faults::members::{is_object, judge_member, make_member};

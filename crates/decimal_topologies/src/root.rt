@@ -1,11 +1,11 @@
 //! Topologies (TopoJSON, section 2.1).
 ghost use Rattle.decimal_faults.specs.Parts.{member_faults, type_text};
-ghost use Rattle.decimal_topologies.specs.Arcs.{arcs_faults, arcs_of};
+ghost use Rattle.decimal_arcs.specs.Arcs.{arcs_faults, arcs_of};
 ghost use Rattle.decimal_topologies.specs.Roots.{AreLayersOn, AreTopologyLayers, HaveLayers, chosen, chosen_layers, content_faults, content_of, is_topology as is_a_topology, topology_faults as faults_in, topology_members_faults, used_in as used_by};
 ghost use Rattle.decimal_topologies.specs.Geometries.{parts_of};
 ghost use Rattle.decimal_topologies.specs.Layers.{chosen_faults, seen_named};
-ghost use Rattle.decimal_topologies.specs.Places.{count_of};
-ghost use Rattle.decimal_topologies.specs.Seen.{seen_arcs};
+ghost use Rattle.decimal_arcs.specs.Places.{count_of};
+ghost use Rattle.decimal_arcs.specs.Seen.{seen_arcs};
 ghost use Rattle.decimal_topologies.specs.Used.{used_arcs as used_by_layers};
 ghost use Rattle.fixing.specs.declared.rules.FixingRules.{FixingRules as Rules};
 ghost use Rattle.json.specs.Find.{get};
@@ -15,14 +15,14 @@ ghost use Rattle.reading.specs.FaultLists.Found.{pairs_of};
 ghost use Rattle.reading.specs.Parts.{named, of_type};
 ghost use Rattle.std.specs.Prelude.{◌≡◌, ◌≢◌, [], IfOk, OnOk, Err, None, Ok, Some, codes, length};
 
-use crate::arcs::{ReadArcs, make_arcs, read_arcs};
 use crate::feature::FeatureOf;
 use crate::geometry::Topology;
 use crate::objects::{LayersOf, TopologyLayer, members_in_order, members_of};
-use crate::place::{Place, Quantization};
 use crate::rules::TopologyRules;
-use crate::transform::{judge_transform, read_quantization};
 use crate::used::used_arcs;
+use decimal_arcs::arcs::{ReadArcs, make_arcs, read_arcs};
+use decimal_arcs::place::{Place, Quantization};
+use decimal_arcs::transform::{judge_transform, read_quantization};
 use decimal_faults::lists::items_of;
 use decimal_faults::members::{is_object, judge_member, make_member, type_name};
 use decimal_maps::Stop;

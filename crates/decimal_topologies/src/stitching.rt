@@ -1,14 +1,14 @@
 //! Lists of numbers of arcs, and the positions that they are stitched to (TopoJSON, section 2.1.4).
-ghost use Rattle.decimal_topologies.specs.Seen.{seen_arcs};
+ghost use Rattle.decimal_arcs.specs.Seen.{seen_arcs};
 ghost use Rattle.decimal_topologies.specs.Stitching.{along, along_if, are_known as all_known, arcs_outline_faults, begins, behind, directed, ends, items_faults, IsStitched, joint_faults, number_faults, numbers_faults, places_at, positions_along, ref_of as named, stitched, stitched_faults};
-ghost use Rattle.decimal_topologies.specs.Tallies.{with_place, with_places};
+ghost use Rattle.decimal_arcs.specs.Tallies.{with_place, with_places};
 ghost use Rattle.json.specs.Value.{value_view, items_view};
 ghost use Rattle.lines.specs.Pairs.{position_eq};
 ghost use Rattle.reading.specs.FaultLists.Found.{pairs_of};
 ghost use Rattle.std.specs.Prelude.{◌≡◌, ◌≢◌, ◌<◌, [], ◌++◌, length, map, drop, slice_get, Some, None, option_map, is_some, IfOk, OnOk, Err};
 
 use crate::numbers::{ArcRef, ref_of};
-use crate::place::Place;
+use decimal_arcs::place::Place;
 use decimal_faults::lists::{items_of, keep};
 use decimal_faults::outline::{Outline, judge_outline};
 use decimal_faults::part::Part;

@@ -5,7 +5,7 @@ use Rattle.faults.specs.declared.fault.Fault.{Fault}
 use Rattle.json.specs.Value.{value_view, items_view}
 use Rattle.reading.specs.FaultLists.Found.{pairs_of}
 use Rattle.decimal_topologies.specs.Roots.{content_of}
-use Rattle.decimal_topologies.specs.Seen.{seen_arcs}
+use Rattle.decimal_arcs.specs.Seen.{seen_arcs}
 use Rattle.decimal_topologies.proofs.Rooted.{both_judged}
 use Rattle.decimal_topologies.proofs.root.judge_both.Goals as goal
 

@@ -2,10 +2,10 @@ use Rattle.std.proofs.Common.{◌≡◌, ◌≢◌, ◌∙◌, Err, [], ap, code
 use Rattle.json.specs.Value.{value_view, items_view}
 use Rattle.decimal_faults.specs.Parts.{member_faults}
 use Rattle.decimal_maps.specs.declared.from_tokens.Stop.TheVariants.{Unread}
-use Rattle.decimal_topologies.specs.Arcs.{arcs_of}
+use Rattle.decimal_arcs.specs.Arcs.{arcs_of}
 use Rattle.decimal_topologies.specs.Layers.{chosen_faults}
 use Rattle.decimal_topologies.specs.Roots.{chosen, used_in}
-use Rattle.decimal_topologies.specs.Seen.{seen_arcs}
+use Rattle.decimal_arcs.specs.Seen.{seen_arcs}
 use Rattle.decimal_topologies.proofs.Rooted.{faulty_arcs, faulty_objects}
 use Rattle.decimal_topologies.proofs.root.make_content.Goals as goal
 

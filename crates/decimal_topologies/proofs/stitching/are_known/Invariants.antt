@@ -1,6 +1,6 @@
 use Rattle.std.proofs.Common.{◌≡◌, drop}
 use Rattle.json.specs.Value.{items_view}
-use Rattle.decimal_topologies.specs.Seen.{seen_arcs}
+use Rattle.decimal_arcs.specs.Seen.{seen_arcs}
 use Rattle.decimal_topologies.specs.Stitching.{are_known}
 use Rattle.decimal_topologies.proofs.stitching.are_known.Given as goal
 

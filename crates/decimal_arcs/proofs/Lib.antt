@@ -1,0 +1,5 @@
+pub mod Fits
+pub mod Numerals
+pub mod Positions
+pub mod Snapped
+pub mod Table
