@@ -12,12 +12,12 @@ use Rattle.topo_io.specs.Means.{MeansTopology}
 use Rattle.noshinka.proofs.PartRefusals.{choice_question, layer_question, scope_question, text_question}
 use Rattle.noshinka.specs.Asking.{AreWithIds, HasMeshChoices, IsBordersText, IsIdsRefusal, IsListsRefusal, IsListsText, IsMeshRefusal, IsMeshText, IsNeighborsAnswer, IsNeighborsRefusal, are_neighbors_choices, by_of, ids_text, layer_of, lists_text}
 use Rattle.noshinka.specs.Keys.{has_key_twice}
-use Rattle.noshinka.specs.Options.{edges_of, lacks_id, name_if}
-use Rattle.noshinka.specs.Why.{IsBadName, IsBadNameIf, IsChoiceRefusal, IsLayerRefusal, IsScopeRefusal, IsTextRefusal, of_query}
+use Rattle.c_calls.specs.Options.{edges_of, lacks_id, name_if}
+use Rattle.c_calls.specs.Why.{IsBadName, IsBadNameIf, IsChoiceRefusal, IsLayerRefusal, IsScopeRefusal, IsTextRefusal, of_query}
 use Rattle.noshinka.specs.declared.questions.MeshOptions.{MeshOptions}
 use Rattle.noshinka.specs.declared.questions.NeighborsOptions.{NeighborsOptions}
-use Rattle.noshinka.specs.declared.refusal.CallRefusal.{CallRefusal}
-use Rattle.noshinka.specs.declared.refusal.CallRefusal.TheVariants.{BadChoice, NoId, OutOfMemory}
+use Rattle.c_calls.specs.declared.refusal.CallRefusal.{CallRefusal}
+use Rattle.c_calls.specs.declared.refusal.CallRefusal.TheVariants.{BadChoice, NoId, OutOfMemory}
 
 pub mesh_size : (o : MeshOptions) (text : List ℕ) → (o.size ≡ 48 → ⊥) → IsMeshRefusal o text BadChoice
 mesh_size o text h = inr (inl h)

@@ -25,11 +25,11 @@ use Rattle.topo_io.specs.Means.{MeansTopology}
 use Rattle.noshinka.specs.BackOptions.{AreBackRules, IsBackNamesRefusal, IsPropertyRefusal, are_back_choices, properties_of}
 use Rattle.noshinka.specs.RoundOptions.{IsSize, numeral_of}
 use Rattle.noshinka.specs.Rounding.{IsScaleRefusal}
-use Rattle.noshinka.specs.WayBack.{IsBackAnswer, IsBackRefusal, IsBackText, IsBackTextRefusal, IsBoxRefusal, IsLike, IsLikeRefusal, IsLikeTextRefusal, IsOfBox, IsOwnRefusal, IsOwnText, IsTextOn, fault_at, like_fault, of_decimal, unit_of}
-use Rattle.noshinka.specs.Why.{IsBadName, IsFaultAt, IsTextRefusal}
+use Rattle.noshinka.specs.WayBack.{IsBackAnswer, IsBackRefusal, IsBackText, IsBackTextRefusal, IsBoxRefusal, IsLike, IsLikeRefusal, IsLikeTextRefusal, IsOfBox, IsOwnRefusal, IsOwnText, IsTextOn, fault_at, like_fault, unit_of}
+use Rattle.c_calls.specs.Why.{IsBadName, IsFaultAt, IsTextRefusal, of_decimal}
 use Rattle.noshinka.specs.declared.back_options.WayBackOptions.{WayBackOptions}
-use Rattle.noshinka.specs.declared.refusal.CallRefusal.{CallRefusal}
-use Rattle.noshinka.specs.declared.refusal.CallRefusal.TheVariants.{BadGrid, BadName, BadChoice, NoId, Text, OtherGrid, NoText, BadPlan, NoLayer, OutOfMemory}
+use Rattle.c_calls.specs.declared.refusal.CallRefusal.{CallRefusal}
+use Rattle.c_calls.specs.declared.refusal.CallRefusal.TheVariants.{BadGrid, BadName, BadChoice, NoId, Text, OtherGrid, NoText, BadPlan, NoLayer, OutOfMemory}
 
 -- ---- names
 

@@ -5,12 +5,12 @@ use Rattle.shapes.specs.Maps.{Layers}
 use Rattle.topo.specs.OfMap.{IsOf}
 use Rattle.topo.specs.Parts.{TopologyParts}
 use Rattle.topo_io.specs.Means.{Means, MeansTopology}
-use Rattle.noshinka.specs.Options.{scope_of}
+use Rattle.c_calls.specs.Options.{scope_of}
 use Rattle.noshinka.specs.Differing.{HasDiffChoices, IsComparisonText, IsDiffAnswer, IsDiffAsked, IsDiffRefusal, IsMeaningRefusal, IsTopologiesRefusal}
-use Rattle.noshinka.specs.Why.{IsChoiceRefusal, IsScopeRefusal, IsTextRefusal}
+use Rattle.c_calls.specs.Why.{IsChoiceRefusal, IsScopeRefusal, IsTextRefusal}
 use Rattle.noshinka.specs.declared.differing.DiffOptions.{DiffOptions}
-use Rattle.noshinka.specs.declared.refusal.CallRefusal.{CallRefusal}
-use Rattle.noshinka.specs.declared.refusal.CallRefusal.TheVariants.{BadChoice, OtherGrid, NoLayer, OutOfMemory}
+use Rattle.c_calls.specs.declared.refusal.CallRefusal.{CallRefusal}
+use Rattle.c_calls.specs.declared.refusal.CallRefusal.TheVariants.{BadChoice, OtherGrid, NoLayer, OutOfMemory}
 
 pub other_grid : (s t : TopologyParts) (layer : Option (List ℕ)) → (s.grid ≡ t.grid → ⊥) → IsTopologiesRefusal s t layer (OtherGrid 1)
 other_grid s t layer apart = inr (inr (refl, apart))

@@ -15,10 +15,10 @@ use Rattle.topo.specs.Parts.{TopologyParts}
 use Rattle.topo_io.specs.Canon.{canon}
 use Rattle.topo_io.specs.Means.{Means, MeansTopology}
 use Rattle.noshinka.specs.Editing.{AreChanged, IsChanged, IsChangeRefusal, IsEditAnswer, IsEditOf, IsEditOn, IsEditRefusal, IsFirstChange, with_or_less}
-use Rattle.noshinka.specs.Why.{IsChoiceRefusal, IsTextRefusal}
+use Rattle.c_calls.specs.Why.{IsChoiceRefusal, IsTextRefusal}
 use Rattle.noshinka.specs.declared.editing.Change.{Change}
-use Rattle.noshinka.specs.declared.refusal.CallRefusal.{CallRefusal}
-use Rattle.noshinka.specs.declared.refusal.CallRefusal.TheVariants.{OtherGrid, OutOfMemory}
+use Rattle.c_calls.specs.declared.refusal.CallRefusal.{CallRefusal}
+use Rattle.c_calls.specs.declared.refusal.CallRefusal.TheVariants.{OtherGrid, OutOfMemory}
 
 pub join_edit : (t : TopologyParts) → IsEditOf false t (Join t)
 join_edit t = (refl, λ m n k of h. h.2 ∙ ap (union m) (one_map t h.0 k h.1 of))

@@ -5,10 +5,10 @@ use Rattle.std.specs.declared.vec.Vec.{Vec}
 use Rattle.std.specs.Result.{IfErr, IfOk}
 use Rattle.std.specs.declared.result.Result.{Result}
 use Rattle.std.specs.declared.result.Result.TheVariants.{Ok, Err}
-use Rattle.noshinka.specs.Ends.{EndsWith, IsDone, IsEnd, IsRefused, IsVerdict, Says}
-use Rattle.noshinka.specs.declared.outcome.CallOutcome.{CallOutcome}
-use Rattle.noshinka.specs.declared.refusal.CallRefusal.{CallRefusal}
-use Rattle.noshinka.specs.declared.refusal.CallRefusal.TheVariants.{BadGrid, BadName, BadChoice, NoId, Text, OtherGrid, NoText, BadPlan, NoLayer, OutOfMemory}
+use Rattle.c_calls.specs.Ends.{EndsWith, IsDone, IsEnd, IsRefused, IsVerdict, Says}
+use Rattle.c_calls.specs.declared.outcome.CallOutcome.{CallOutcome}
+use Rattle.c_calls.specs.declared.refusal.CallRefusal.{CallRefusal}
+use Rattle.c_calls.specs.declared.refusal.CallRefusal.TheVariants.{BadGrid, BadName, BadChoice, NoId, Text, OtherGrid, NoText, BadPlan, NoLayer, OutOfMemory}
 
 -- a refusal ends with one of three statuses
 pub says_why : (r : CallRefusal) (o : CallOutcome) (old new : List ℕ) → IsRefused r o old new → (o.status ≡ 2) ⊎ ((o.status ≡ 4) ⊎ (o.status ≡ 5))

@@ -1,5 +1,4 @@
 pub mod Ending
-pub mod Sources
 pub mod Texts
 pub mod PartRefusals
 pub mod Removals

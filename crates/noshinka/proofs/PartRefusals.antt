@@ -3,10 +3,10 @@ use Rattle.std.proofs.Common.{◌≤◌, ℕ, List}
 use Rattle.std.specs.Prelude.{Option, Some}
 use Rattle.topo.specs.Parts.{TopologyParts}
 use Rattle.topo_io.specs.Means.{MeansTopology}
-use Rattle.noshinka.specs.Options.{scope_of}
-use Rattle.noshinka.specs.Why.{IsBadName, IsChoiceRefusal, IsLayerRefusal, IsQuestionRefusal, IsScopeRefusal, IsTextRefusal}
-use Rattle.noshinka.specs.declared.refusal.CallRefusal.{CallRefusal}
-use Rattle.noshinka.specs.declared.refusal.CallRefusal.TheVariants.{BadGrid, BadName, BadChoice, NoId, Text, OtherGrid, NoText, BadPlan, NoLayer, OutOfMemory}
+use Rattle.c_calls.specs.Options.{scope_of}
+use Rattle.c_calls.specs.Why.{IsBadName, IsChoiceRefusal, IsLayerRefusal, IsQuestionRefusal, IsScopeRefusal, IsTextRefusal}
+use Rattle.c_calls.specs.declared.refusal.CallRefusal.{CallRefusal}
+use Rattle.c_calls.specs.declared.refusal.CallRefusal.TheVariants.{BadGrid, BadName, BadChoice, NoId, Text, OtherGrid, NoText, BadPlan, NoLayer, OutOfMemory}
 
 pub choice_question : (Bad Worse : Type 0) → (Bad → Worse) → (text : List ℕ) (scope : Option (List ℕ)) (r : CallRefusal) → IsChoiceRefusal Bad r → IsQuestionRefusal Worse text scope r
 choice_question Bad Worse so text scope BadGrid h = absurd h

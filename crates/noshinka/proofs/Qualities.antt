@@ -12,12 +12,12 @@ use Rattle.topo_io.specs.Canon.{canon}
 use Rattle.topo_io.specs.Means.{Means, MeansTopology}
 use Rattle.topo_io.specs.TopologyText.{topology_text}
 use Rattle.noshinka.specs.Answers.{IsCanonical, IsNotCanonical}
-use Rattle.noshinka.specs.Ends.{Says}
+use Rattle.c_calls.specs.Ends.{Says}
 use Rattle.noshinka.specs.Quality.{IsQualityAnswer, IsQualityRefusal, are_quality_choices, tests_of}
-use Rattle.noshinka.specs.Why.{IsTextRefusal}
+use Rattle.c_calls.specs.Why.{IsTextRefusal}
 use Rattle.noshinka.specs.declared.map_quality.QualityOptions.{QualityOptions}
-use Rattle.noshinka.specs.declared.refusal.CallRefusal.{CallRefusal}
-use Rattle.noshinka.specs.declared.refusal.CallRefusal.TheVariants.{BadChoice, OutOfMemory}
+use Rattle.c_calls.specs.declared.refusal.CallRefusal.{CallRefusal}
+use Rattle.c_calls.specs.declared.refusal.CallRefusal.TheVariants.{BadChoice, OutOfMemory}
 
 -- the text of a topology that a text means is the canonical one of what that means
 one_text : (text : List ℕ) (t : TopologyParts) → MeansTopology text t → (g : Transform) (m : Layers) → Means text g m → topology_text (seen_parts t) ≡ canon g m

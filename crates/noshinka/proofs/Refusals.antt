@@ -10,9 +10,9 @@ use Rattle.grid.specs.Place.{Transform}
 use Rattle.merging.specs.Merge.{IsMergeFault}
 use Rattle.merging.specs.declared.fault.MergeFault.{MergeFault}
 use Rattle.merging.specs.declared.fault.MergeFault.TheVariants as merge
-use Rattle.noshinka.specs.Why.{IsBadSource, IsBuildRefusal, IsMergeRefusal, of_build, of_merge}
-use Rattle.noshinka.specs.declared.refusal.CallRefusal.{CallRefusal}
-use Rattle.noshinka.specs.declared.refusal.CallRefusal.TheVariants.{BadGrid, BadName, BadChoice, NoId, Text, OtherGrid, NoText, BadPlan, NoLayer, OutOfMemory}
+use Rattle.c_calls.specs.Why.{IsBadSource, IsBuildRefusal, IsMergeRefusal, of_build, of_merge}
+use Rattle.c_calls.specs.declared.refusal.CallRefusal.{CallRefusal}
+use Rattle.c_calls.specs.declared.refusal.CallRefusal.TheVariants.{BadGrid, BadName, BadChoice, NoId, Text, OtherGrid, NoText, BadPlan, NoLayer, OutOfMemory}
 
 pub of_merge_refused : (texts : List (List ℕ)) (e : MergeFault) → IsMergeFault texts (range_with_len 0 (length texts)) e → IsMergeRefusal texts (of_merge e)
 of_merge_refused texts (merge.BadPlan k) is = is

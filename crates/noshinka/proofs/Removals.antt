@@ -11,9 +11,9 @@ use Rattle.topo_io.specs.Means.{Means, MeansTopology}
 use Rattle.topo_io.specs.Roots.{grid_of_text}
 use Rattle.topo_io.specs.TopologyText.{topology_text}
 use Rattle.noshinka.specs.Answers.{IsRemoval, IsTextWithout}
-use Rattle.noshinka.specs.Why.{IsOtherGrid, IsRemoveRefusal, IsTextRefusal}
-use Rattle.noshinka.specs.declared.refusal.CallRefusal.{CallRefusal}
-use Rattle.noshinka.specs.declared.refusal.CallRefusal.TheVariants.{BadGrid, BadName, BadChoice, NoId, Text, OtherGrid, NoText, BadPlan, NoLayer, OutOfMemory}
+use Rattle.c_calls.specs.Why.{IsOtherGrid, IsRemoveRefusal, IsTextRefusal}
+use Rattle.c_calls.specs.declared.refusal.CallRefusal.{CallRefusal}
+use Rattle.c_calls.specs.declared.refusal.CallRefusal.TheVariants.{BadGrid, BadName, BadChoice, NoId, Text, OtherGrid, NoText, BadPlan, NoLayer, OutOfMemory}
 
 pub first_refused : (text removed : List ℕ) (r : CallRefusal) → IsTextRefusal 0 text r → IsRemoveRefusal text removed r
 first_refused text removed BadGrid h = absurd h

@@ -17,9 +17,9 @@ use Rattle.topo_io.specs.TopologyText.{topology_text}
 use Rattle.report_texts.specs.ReportText.{report_if}
 use Rattle.noshinka.specs.RoundOptions.{AreRules, HaveUnits, are_choices}
 use Rattle.noshinka.specs.Rounding.{IsFilesRefusal, IsMade, IsNamesRefusal, IsRoundAnswer, IsRoundRefusal, IsScaleRefusal, IsSourcesRefusal, features_in, files_as, names_in}
-use Rattle.noshinka.specs.Why.{IsBadName, IsBadNameIf, IsBadSource, of_maps}
-use Rattle.noshinka.specs.declared.refusal.CallRefusal.{CallRefusal}
-use Rattle.noshinka.specs.declared.refusal.CallRefusal.TheVariants.{BadGrid, BadName, BadChoice, NoId, Text, OtherGrid, NoText, BadPlan, NoLayer, OutOfMemory}
+use Rattle.c_calls.specs.Why.{IsBadName, IsBadNameIf, IsBadSource, of_maps}
+use Rattle.c_calls.specs.declared.refusal.CallRefusal.{CallRefusal}
+use Rattle.c_calls.specs.declared.refusal.CallRefusal.TheVariants.{BadGrid, BadName, BadChoice, NoId, Text, OtherGrid, NoText, BadPlan, NoLayer, OutOfMemory}
 use Rattle.noshinka.specs.declared.round_options.PropertyScale.{PropertyScale}
 use Rattle.noshinka.specs.declared.round_options.RoundOptions.{RoundOptions}
 

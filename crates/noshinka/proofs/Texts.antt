@@ -11,9 +11,9 @@ use Rattle.topo.specs.Parts.{TopologyParts}
 use Rattle.topo_io.specs.Means.{MeansTopology}
 use Rattle.topo_io.specs.Roots.{faults_of_text}
 use Rattle.noshinka.specs.Answers.{HasScope, IsCollectionText, IsFeatureText, IsInfoAnswer}
-use Rattle.noshinka.specs.Why.{IsFaultAt, IsTextRefusal}
-use Rattle.noshinka.specs.declared.refusal.CallRefusal.{CallRefusal}
-use Rattle.noshinka.specs.declared.refusal.CallRefusal.TheVariants.{BadGrid, BadName, BadChoice, NoId, Text, OtherGrid, NoText, BadPlan, NoLayer, OutOfMemory}
+use Rattle.c_calls.specs.Why.{IsFaultAt, IsTextRefusal}
+use Rattle.c_calls.specs.declared.refusal.CallRefusal.{CallRefusal}
+use Rattle.c_calls.specs.declared.refusal.CallRefusal.TheVariants.{BadGrid, BadName, BadChoice, NoId, Text, OtherGrid, NoText, BadPlan, NoLayer, OutOfMemory}
 
 -- an answer that is no refusal is about a layer that is there
 pub layer_kept : {T E : Type 0} (x : T) (e : E) (b : Bool) → (◌≡◌ {A = Result T E} (Ok x) (Err e)) ↔ (¬ IsTrue b) → IsTrue b

@@ -16,12 +16,12 @@ use Rattle.topo.specs.declared.geom.Geom.{Geom}
 use Rattle.topo_io.specs.Means.{MeansTopology}
 use Rattle.noshinka.specs.Answers.{HasLayer, HasScope}
 use Rattle.noshinka.specs.Keys.{has_key_twice}
-use Rattle.noshinka.specs.Options.{edges_of, lacks_id, name_if, scope_of}
-use Rattle.noshinka.specs.Why.{IsBadName, IsBadNameIf, IsQuestionRefusal, IsTextRefusal}
+use Rattle.c_calls.specs.Options.{edges_of, lacks_id, name_if, scope_of}
+use Rattle.c_calls.specs.Why.{IsBadName, IsBadNameIf, IsQuestionRefusal, IsTextRefusal}
 use Rattle.noshinka.specs.declared.questions.MeshOptions.{MeshOptions}
 use Rattle.noshinka.specs.declared.questions.NeighborsOptions.{NeighborsOptions}
-use Rattle.noshinka.specs.declared.refusal.CallRefusal.{CallRefusal}
-use Rattle.noshinka.specs.declared.refusal.CallRefusal.TheVariants.{BadChoice, NoId, NoLayer, OutOfMemory}
+use Rattle.c_calls.specs.declared.refusal.CallRefusal.{CallRefusal}
+use Rattle.c_calls.specs.declared.refusal.CallRefusal.TheVariants.{BadChoice, NoId, NoLayer, OutOfMemory}
 
 -- the lines over the segments of the topology's features in scope: those at which a property differs, where one is named, else those that the edges select
 abbrev pub AreAskedBorders : TopologyParts → Option (List ℕ) → Option (List ℕ) → Edges → Arcs → Type 0

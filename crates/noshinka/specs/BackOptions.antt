@@ -5,11 +5,11 @@ use Rattle.decimals.specs.declared.topology.rules.NumbersBack.{NumbersBack}
 use Rattle.decimals.specs.declared.topology.rules.NumbersBack.TheVariants as numbers
 use Rattle.noshinka.specs.RoundOptions.{are_powers, rewind_of, scale_of, scale_pair}
 use Rattle.noshinka.specs.Rounding.{IsScaleRefusal}
-use Rattle.noshinka.specs.Why.{HasBadName}
+use Rattle.c_calls.specs.Why.{HasBadName}
 use Rattle.noshinka.specs.declared.back_options.BackNames.{BackNames}
 use Rattle.noshinka.specs.declared.back_options.WayBackOptions.{WayBackOptions}
-use Rattle.noshinka.specs.declared.refusal.CallRefusal.{CallRefusal}
-use Rattle.noshinka.specs.declared.refusal.CallRefusal.TheVariants.{BadName, OutOfMemory}
+use Rattle.c_calls.specs.declared.refusal.CallRefusal.{CallRefusal}
+use Rattle.c_calls.specs.declared.refusal.CallRefusal.TheVariants.{BadName, OutOfMemory}
 
 -- a transform of numbers along each axis has 2 of them to 2^40
 abbrev pub is_counted : WayBackOptions → Bool

@@ -8,11 +8,11 @@ use Rattle.topo.specs.OfMap.{IsOf}
 use Rattle.topo.specs.Parts.{TopologyParts}
 use Rattle.topo_io.specs.Means.{Means, MeansTopology}
 use Rattle.topo_io.specs.Roots.{grid_of_text}
-use Rattle.noshinka.specs.Options.{scope_of}
-use Rattle.noshinka.specs.Why.{IsChoiceRefusal, IsScopeRefusal, IsTextRefusal}
+use Rattle.c_calls.specs.Options.{scope_of}
+use Rattle.c_calls.specs.Why.{IsChoiceRefusal, IsScopeRefusal, IsTextRefusal}
 use Rattle.noshinka.specs.declared.differing.DiffOptions.{DiffOptions}
-use Rattle.noshinka.specs.declared.refusal.CallRefusal.{CallRefusal}
-use Rattle.noshinka.specs.declared.refusal.CallRefusal.TheVariants.{BadChoice, OtherGrid, NoLayer, OutOfMemory}
+use Rattle.c_calls.specs.declared.refusal.CallRefusal.{CallRefusal}
+use Rattle.c_calls.specs.declared.refusal.CallRefusal.TheVariants.{BadChoice, OtherGrid, NoLayer, OutOfMemory}
 
 -- both topologies are on one grid, and neither has the layer that is named
 abbrev pub IsLackedBy : TopologyParts → TopologyParts → Option (List ℕ) → Type 0

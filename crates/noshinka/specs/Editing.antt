@@ -11,10 +11,10 @@ use Rattle.topo.specs.Parts.{TopologyParts}
 use Rattle.topo_io.specs.Canon.{canon}
 use Rattle.topo_io.specs.Means.{Means}
 use Rattle.topo_io.specs.Roots.{grid_of_text}
-use Rattle.noshinka.specs.Why.{IsChoiceRefusal, IsTextRefusal}
+use Rattle.c_calls.specs.Why.{IsChoiceRefusal, IsTextRefusal}
 use Rattle.noshinka.specs.declared.editing.Change.{Change}
-use Rattle.noshinka.specs.declared.refusal.CallRefusal.{CallRefusal}
-use Rattle.noshinka.specs.declared.refusal.CallRefusal.TheVariants.{OtherGrid, OutOfMemory}
+use Rattle.c_calls.specs.declared.refusal.CallRefusal.{CallRefusal}
+use Rattle.c_calls.specs.declared.refusal.CallRefusal.TheVariants.{OtherGrid, OutOfMemory}
 
 -- a map with the features of another one, or without them
 abbrev pub with_or_less : Bool → Layers → Layers → Layers

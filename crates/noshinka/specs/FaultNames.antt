@@ -2,8 +2,8 @@
 use Rattle.std.specs.Prelude.{◌≡◌, ◌<◌, ◌⊎◌, ℕ, List}
 use Rattle.faults.specs.Fault.{name_of, number_of}
 use Rattle.faults.specs.declared.fault.FaultKind.{FaultKind}
-use Rattle.noshinka.specs.declared.refusal.CallRefusal.{CallRefusal}
-use Rattle.noshinka.specs.declared.refusal.CallRefusal.TheVariants.{BadChoice, OutOfMemory}
+use Rattle.c_calls.specs.declared.refusal.CallRefusal.{CallRefusal}
+use Rattle.c_calls.specs.declared.refusal.CallRefusal.TheVariants.{BadChoice, OutOfMemory}
 
 -- t is the name of the kind of fault with the number
 abbrev pub IsFaultName : ℕ → List ℕ → Type 0

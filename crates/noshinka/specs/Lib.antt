@@ -1,7 +1,3 @@
-pub mod Borrowed
-pub mod Ends
-pub mod Options
-pub mod Why
 pub mod Answers
 pub mod Differing
 pub mod Listing

@@ -10,9 +10,9 @@ use Rattle.fault_reports.specs.declared.features.Format.TheVariants.{GeoJson, To
 use Rattle.fault_reports.specs.declared.report.FaultReport.{FaultReport}
 use Rattle.reading.specs.FaultLists.Found.{pairs_of}
 use Rattle.topo_io.specs.Roots.{faults_of_text}
-use Rattle.noshinka.specs.Why.{IsChoiceRefusal}
-use Rattle.noshinka.specs.declared.refusal.CallRefusal.{CallRefusal}
-use Rattle.noshinka.specs.declared.refusal.CallRefusal.TheVariants.{BadGrid, OutOfMemory}
+use Rattle.c_calls.specs.Why.{IsChoiceRefusal}
+use Rattle.c_calls.specs.declared.refusal.CallRefusal.{CallRefusal}
+use Rattle.c_calls.specs.declared.refusal.CallRefusal.TheVariants.{BadGrid, OutOfMemory}
 
 -- t is a JSON array of reports of just these faults, in order; each says where the fault is in a text of the format
 pub record IsFaultText (format : Format) (text : List ℕ) (faults : List Pair) (t : List ℕ) : Type 0 where

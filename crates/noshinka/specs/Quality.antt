@@ -5,11 +5,11 @@ use Rattle.report_texts.specs.declared.quality_text.QualityTests.{QualityTests}
 use Rattle.topo.specs.Parts.{TopologyParts}
 use Rattle.topo_io.specs.Means.{MeansTopology}
 use Rattle.noshinka.specs.Answers.{IsCanonical, IsNotCanonical}
-use Rattle.noshinka.specs.Ends.{Says}
-use Rattle.noshinka.specs.Why.{IsTextRefusal}
+use Rattle.c_calls.specs.Ends.{Says}
+use Rattle.c_calls.specs.Why.{IsTextRefusal}
 use Rattle.noshinka.specs.declared.map_quality.QualityOptions.{QualityOptions}
-use Rattle.noshinka.specs.declared.refusal.CallRefusal.{CallRefusal}
-use Rattle.noshinka.specs.declared.refusal.CallRefusal.TheVariants.{BadChoice, OutOfMemory}
+use Rattle.c_calls.specs.declared.refusal.CallRefusal.{CallRefusal}
+use Rattle.c_calls.specs.declared.refusal.CallRefusal.TheVariants.{BadChoice, OutOfMemory}
 
 -- the options have the size of these, and each number is within its limits
 abbrev pub are_quality_choices : QualityOptions → Bool

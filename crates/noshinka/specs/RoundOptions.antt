@@ -14,7 +14,7 @@ use Rattle.grid.specs.Place.{IsScale}
 use Rattle.numerals.specs.Numeral.{IsMeasure, IsOver, IsUnsigned, measure_of}
 use Rattle.rounded_maps.specs.Written.{of_units}
 use Rattle.rounded_maps.specs.declared.building.BuildRules.{BuildRules}
-use Rattle.noshinka.specs.Options.{name_if}
+use Rattle.c_calls.specs.Options.{name_if}
 use Rattle.noshinka.specs.declared.round_options.PropertyScale.{PropertyScale}
 use Rattle.noshinka.specs.declared.round_options.RoundOptions.{RoundOptions}
 

@@ -15,12 +15,12 @@ use Rattle.theory.specs.Lists.{gathered}
 use Rattle.topo.specs.OfMap.{seen_parts}
 use Rattle.topo.specs.Parts.{TopologyParts}
 use Rattle.topo_io.specs.TopologyText.{topology_text}
-use Rattle.noshinka.specs.Options.{name_if}
+use Rattle.c_calls.specs.Options.{name_if}
 use Rattle.report_texts.specs.ReportText.{report_if}
 use Rattle.noshinka.specs.RoundOptions.{AreRules, HaveUnits, IsSize, IsUnits, are_choices, numeral_of, scale_of, scale_pair}
-use Rattle.noshinka.specs.Why.{HasBadName, HasBadScope, of_maps}
-use Rattle.noshinka.specs.declared.refusal.CallRefusal.{CallRefusal}
-use Rattle.noshinka.specs.declared.refusal.CallRefusal.TheVariants.{BadGrid, BadName, BadChoice, OutOfMemory}
+use Rattle.c_calls.specs.Why.{HasBadName, HasBadScope, of_maps}
+use Rattle.c_calls.specs.declared.refusal.CallRefusal.{CallRefusal}
+use Rattle.c_calls.specs.declared.refusal.CallRefusal.TheVariants.{BadGrid, BadName, BadChoice, OutOfMemory}
 use Rattle.noshinka.specs.declared.round_options.PropertyScale.{PropertyScale}
 use Rattle.noshinka.specs.declared.round_options.RoundOptions.{RoundOptions}
 use Rattle.noshinka.specs.declared.rules.Names.{Names}

@@ -4,8 +4,6 @@ use Rattle.decimals.specs.Topology.BoxTransform.{IsBoxTransform, box_transform, 
 use Rattle.decimals.specs.Topology.DecimalTransform.{DecimalTransformParts}
 use Rattle.decimals.specs.Topology.TopologyText.{quantized_text, unit_text}
 use Rattle.decimals.specs.Topology.TransformFaults.{IsTransformFault, IsTransformOf, text_numerals}
-use Rattle.decimals.specs.declared.topology.fault.DecimalFault.{DecimalFault}
-use Rattle.decimals.specs.declared.topology.fault.DecimalFault.TheVariants as decimal
 use Rattle.decimals.specs.declared.topology.rules.BackRules.{BackRules}
 use Rattle.decimals.specs.declared.topology.transform_fault.TransformFault.{TransformFault}
 use Rattle.decimals.specs.declared.topology.transform_fault.TransformFault.TheVariants as faulty
@@ -20,10 +18,10 @@ use Rattle.topo.specs.Parts.{TopologyParts}
 use Rattle.topo_io.specs.Means.{MeansTopology}
 use Rattle.noshinka.specs.BackOptions.{AreBackRules, IsBackNamesRefusal, are_back_choices}
 use Rattle.noshinka.specs.RoundOptions.{IsSize, numeral_of}
-use Rattle.noshinka.specs.Why.{IsTextRefusal}
+use Rattle.c_calls.specs.Why.{IsTextRefusal}
 use Rattle.noshinka.specs.declared.back_options.WayBackOptions.{WayBackOptions}
-use Rattle.noshinka.specs.declared.refusal.CallRefusal.{CallRefusal}
-use Rattle.noshinka.specs.declared.refusal.CallRefusal.TheVariants.{BadChoice, BadGrid, OutOfMemory, Text}
+use Rattle.c_calls.specs.declared.refusal.CallRefusal.{CallRefusal}
+use Rattle.c_calls.specs.declared.refusal.CallRefusal.TheVariants.{BadChoice, BadGrid, OutOfMemory, Text}
 
 -- a fault at a path
 abbrev pub fault_at : List Turn → FaultKind → Pair
@@ -38,11 +36,6 @@ like_fault faulty.NotTwoNumbers = fault_at (name (codes "transform") ∷ []) kin
 like_fault faulty.ZeroScale = fault_at (name (codes "transform") ∷ []) kinds.OutOfRange
 like_fault faulty.TooManyDigits = fault_at (name (codes "transform") ∷ []) kinds.OutOfRange
 like_fault faulty.OutOfMemory = fault_at [] kinds.OutOfMemory
-
--- the fault of a text in the unit of the map, as a refusal: the unit has too many digits
-abbrev pub of_decimal : DecimalFault → CallRefusal
-of_decimal decimal.TooManyDigits = BadGrid
-of_decimal decimal.OutOfMemory = OutOfMemory
 
 -- the text is accepted, and t is the text of its topology in the unit
 pub record IsOwnText (u : Measure) (rules : BackRules) (text t : List ℕ) : Type 0 where

@@ -2,11 +2,11 @@
 ghost use Rattle.noshinka.specs.BackOptions.{AreBackNames, AreBackRules, IsBackNamesRefusal, IsNumbers, IsPropertyRefusal, are_back_choices, is_counted, properties_of};
 ghost use Rattle.std.specs.Prelude.{◌≡◌, IfErr, IfOk, map, true};
 
-use crate::borrowed::name_of;
-use crate::refusal::CallRefusal;
 use crate::round_options::{PropertyScale, are_powers, rewind_of};
 use crate::rules::scales_of;
 use attributes::Scale;
+use c_calls::borrowed::name_of;
+use c_calls::refusal::CallRefusal;
 use decimals::topology::{BackRules, NumbersBack};
 use grid::limits::GREATEST_GRID_NUMBER;
 use std::alloc::Global;

@@ -4,9 +4,9 @@ ghost use Rattle.std.specs.Option.{option_copied};
 ghost use Rattle.std.specs.Prelude.{IfErr, IfOk};
 
 use crate::making::on_one_grid;
-use crate::options::{flag, scope_named};
-use crate::refusal::CallRefusal;
 use crate::topologies::topology_of;
+use c_calls::options::{flag, scope_named};
+use c_calls::refusal::CallRefusal;
 use difference_text::{DifferenceFault, DifferenceOptions, write_difference};
 use sinks::Kept;
 use std::alloc::Global;

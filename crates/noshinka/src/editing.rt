@@ -5,9 +5,9 @@ ghost use Rattle.std.specs.Prelude.{◌≡◌, IfErr, IfOk, OnOk};
 ghost use Rattle.topo.specs.OfMap.{IsOf};
 
 use crate::making::on_one_grid;
-use crate::options::flag;
-use crate::refusal::CallRefusal;
 use crate::topologies::topology_of;
+use c_calls::options::flag;
+use c_calls::refusal::CallRefusal;
 use faults::OutOfMemory;
 use refine::{Edit, Session};
 use std::alloc::Global;

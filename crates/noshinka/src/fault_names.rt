@@ -3,7 +3,7 @@ ghost use Rattle.faults.specs.Fault.{number_of};
 ghost use Rattle.noshinka.specs.FaultNames.{IsFaultName, IsNameless};
 ghost use Rattle.std.specs.Prelude.{◌≡◌, ◌<◌, ◌⊎◌, IfErr, IfNone, IfOk, IfSome};
 
-use crate::refusal::CallRefusal;
+use c_calls::refusal::CallRefusal;
 use faults::FaultKind;
 use std::alloc::Global;
 

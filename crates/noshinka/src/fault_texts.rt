@@ -1,5 +1,5 @@
 //! All faults of a borrowed text.
-ghost use Rattle.noshinka.specs.Borrowed.{grid_of};
+ghost use Rattle.c_calls.specs.Borrowed.{grid_of};
 ghost use Rattle.noshinka.specs.Listing.{IsFaultText, IsFaultsAnswer, IsFormatRefusal, IsGridRefusal, IsListRefusal, faults_as, format_of};
 ghost use Rattle.reading.specs.FaultLists.Found.{pairs_of};
 ghost use Rattle.geojson_io.specs.Features.{faults_of_text as geojson_faults};
@@ -8,9 +8,9 @@ ghost use Rattle.fault_reports.specs.declared.features.Format.TheVariants.{GeoJs
 ghost use Rattle.std.specs.Prelude.{◌≡◌, IfErr, IfOk};
 ghost use Rattle.topo_io.specs.Roots.{faults_of_text};
 
-use crate::borrowed::{GridNumbers, grid_within};
-use crate::options::flag;
-use crate::refusal::CallRefusal;
+use c_calls::borrowed::{GridNumbers, grid_within};
+use c_calls::options::flag;
+use c_calls::refusal::CallRefusal;
 use fault_reports::{FaultReport, Format, ReportArray, reports};
 use faults::{Fault, OutOfMemory};
 use sinks::Kept;

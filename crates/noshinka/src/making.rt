@@ -2,14 +2,14 @@
 ghost use Rattle.outputs.specs.BuiltText.Maps.{IsTextOfTexts};
 ghost use Rattle.merging.specs.Merge.{lent_texts, IsMergeOf};
 ghost use Rattle.noshinka.specs.Answers.{IsRemoval, IsTextWithout};
-ghost use Rattle.noshinka.specs.Borrowed.{grid_of, borrowed_sources};
-ghost use Rattle.noshinka.specs.Why.{IsBuildRefusal, IsMergeRefusal, IsOtherGrid, IsRemoveRefusal};
+ghost use Rattle.c_calls.specs.Borrowed.{grid_of, borrowed_sources};
+ghost use Rattle.c_calls.specs.Why.{IsBuildRefusal, IsMergeRefusal, IsOtherGrid, IsRemoveRefusal};
 ghost use Rattle.std.specs.List.{range_with_len};
 ghost use Rattle.std.specs.Prelude.{◌≡◌, ◌↔◌, IfErr, IfOk, length, true};
 
-use crate::borrowed::{GridNumbers, SourceText, borrow_sources, grid_within};
-use crate::refusal::CallRefusal;
 use crate::topologies::topology_of;
+use c_calls::borrowed::{GridNumbers, SourceText, borrow_sources, grid_within};
+use c_calls::refusal::CallRefusal;
 use outputs::built_text::build_borrowed;
 use refine::{JoinFault, merge_borrowed_topologies, remove_topology};
 use std::alloc::Global;

@@ -1,13 +1,13 @@
 //! What tests of the quality of a borrowed topology find.
-ghost use Rattle.noshinka.specs.Ends.{Says};
+ghost use Rattle.c_calls.specs.Ends.{Says};
 ghost use Rattle.noshinka.specs.Answers.{IsCanonical, IsNotCanonical};
 ghost use Rattle.noshinka.specs.Quality.{IsQualityAnswer, IsQualityRefusal, are_quality_choices, steps_of, tests_of};
 ghost use Rattle.report_texts.specs.QualityText.{IsQualityText};
 ghost use Rattle.std.specs.Prelude.{◌≡◌, IfErr, IfOk};
 ghost use Rattle.topo_io.specs.Means.{MeansTopology};
 
-use crate::refusal::CallRefusal;
 use crate::topologies::topology_of;
+use c_calls::refusal::CallRefusal;
 use faults::OutOfMemory;
 use report_texts::{QualityTests, write_quality};
 use sinks::Kept;

@@ -1,7 +1,7 @@
 //! Answers to questions about a borrowed topology.
 ghost use Rattle.noshinka.specs.Answers.{IsCollectionText, IsFeatureText, IsInfoAnswer};
 ghost use Rattle.noshinka.specs.Asking.{AreAskedBorders, AreAskedNeighbors, AreWithIds, IsBordersText, IsIdsRefusal, IsListsRefusal, IsListsText, IsMeshRefusal, IsMeshText, IsNeighborsAnswer, IsNeighborsRefusal, are_neighbors_choices, ids_text};
-ghost use Rattle.noshinka.specs.Why.{IsLayerRefusal, IsQuestionRefusal};
+ghost use Rattle.c_calls.specs.Why.{IsLayerRefusal, IsQuestionRefusal};
 ghost use Rattle.query.specs.AnswerTexts.{neighbor_ids_text, neighbors_text};
 ghost use Rattle.query.specs.Keyed.{keyed_text};
 ghost use Rattle.query.specs.Mesh.{IsMissing};
@@ -15,11 +15,11 @@ ghost use Rattle.std.specs.Option.{option_map};
 ghost use Rattle.std.specs.Prelude.{◌≡◌, ◌↔◌, ◌≤◌, Err, IfErr, IfOk, IsTrue, OnErr, OnOk, Some, None, map};
 ghost use Rattle.topo.specs.ItsMap.{ForItsMap};
 
-use crate::borrowed::name_of;
 use crate::keys::is_key_twice;
-use crate::options::{edges_named, flag, is_id_missing, name_if, scope_named};
-use crate::refusal::CallRefusal;
 use crate::topologies::topology_of;
+use c_calls::borrowed::name_of;
+use c_calls::options::{edges_named, flag, is_id_missing, name_if, scope_named};
+use c_calls::refusal::CallRefusal;
 use chains::ArcTable;
 use faults::OutOfMemory;
 use outputs::info_text::{write_json, write_lines};

@@ -1,5 +1,5 @@
 //! From texts in decimal numbers to the topology or the features of what they are rounded to.
-ghost use Rattle.noshinka.specs.Borrowed.{borrowed_sources};
+ghost use Rattle.c_calls.specs.Borrowed.{borrowed_sources};
 ghost use Rattle.noshinka.specs.Rounding.{IsFilesRefusal, IsMade, IsRoundAnswer, IsRoundRefusal, IsSourcesRefusal, features_in, files_as, names_in};
 ghost use Rattle.report_texts.specs.ReportText.{report_if};
 ghost use Rattle.outputs.specs.BuiltText.Maps.{borrowed_texts};
@@ -9,10 +9,10 @@ ghost use Rattle.std.specs.Prelude.{◌≡◌, ◌++◌, IfErr, IfOk, false, map
 ghost use Rattle.topo.specs.OfMap.{seen_parts};
 ghost use Rattle.topo_io.specs.TopologyText.{topology_text};
 
-use crate::borrowed::{SourceText, borrow_sources};
-use crate::refusal::CallRefusal;
 use crate::round_options::{RoundOptions, are_choices};
 use crate::rules::{names_of, rules_of, units_of};
+use c_calls::borrowed::{SourceText, borrow_sources};
+use c_calls::refusal::CallRefusal;
 use faults::OutOfMemory;
 use grid::Grid;
 use report_texts::write_report;

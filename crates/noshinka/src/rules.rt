@@ -1,15 +1,15 @@
 //! The rules that the options of a rounding stand for.
 ghost use Rattle.noshinka.specs.RoundOptions.{AreRules, HaveUnits, IsUnits, are_choices, decimal_grid, greatest_of, numeral_of, scale_of, scale_pair};
 ghost use Rattle.noshinka.specs.Rounding.{AreNames, AreUnits, IsNamesRefusal, IsScaleRefusal};
-ghost use Rattle.noshinka.specs.Why.{IsBadName};
+ghost use Rattle.c_calls.specs.Why.{IsBadName};
 ghost use Rattle.numerals.specs.Numeral.{measure_of};
 ghost use Rattle.std.specs.Prelude.{◌≡◌, ◌≤◌, IfErr, IfNone, IfOk, IfSome, map, true};
 
-use crate::borrowed::name_of;
-use crate::options::name_if;
-use crate::refusal::CallRefusal;
 use crate::round_options::{PropertyScale, RoundOptions, fixing_of, reals_of};
 use attributes::{AttributeRules, Scale};
+use c_calls::borrowed::name_of;
+use c_calls::options::name_if;
+use c_calls::refusal::CallRefusal;
 use decimal_maps::{DecimalGrid, MapRules};
 use grid::Grid;
 use grid::limits::{GREATEST_ABSOLUTE_NUMBER, GREATEST_GRID_NUMBER};

@@ -1,11 +1,11 @@
 //! Topologies of borrowed texts.
 ghost use Rattle.noshinka.specs.Answers.{IsCanonical, IsNotCanonical};
-ghost use Rattle.noshinka.specs.Ends.{Says};
-ghost use Rattle.noshinka.specs.Why.{IsTextRefusal};
+ghost use Rattle.c_calls.specs.Ends.{Says};
+ghost use Rattle.c_calls.specs.Why.{IsTextRefusal};
 ghost use Rattle.std.specs.Prelude.{◌<◌, ◌^◌, IfErr, IfOk, length};
 ghost use Rattle.topo_io.specs.Means.{MeansTopology};
 
-use crate::refusal::CallRefusal;
+use c_calls::refusal::CallRefusal;
 use std::alloc::Global;
 use topo::Topology;
 

@@ -5,16 +5,16 @@ ghost use Rattle.faults.specs.Path.{name as name_turn};
 ghost use Rattle.noshinka.specs.BackOptions.{are_back_choices};
 ghost use Rattle.noshinka.specs.WayBack.{IsBackAnswer, IsBackRefusal, IsBackText, IsBackTextRefusal, IsBoxRefusal, IsLike, IsLikeRefusal, IsLikeTextRefusal, IsOfBox, IsOwnRefusal, IsOwnText, IsTextOn, fault_at, like_fault};
 ghost use Rattle.noshinka.specs.RoundOptions.{IsSize, numeral_of};
-ghost use Rattle.noshinka.specs.Why.{IsTextRefusal};
+ghost use Rattle.c_calls.specs.Why.{IsTextRefusal};
 ghost use Rattle.numerals.specs.Numeral.{measure_of};
 ghost use Rattle.rounded_maps.specs.Sequences.{without_mark};
 ghost use Rattle.std.specs.Prelude.{◌≡◌, ◌≤◌, [], ◌∷◌, IfErr, IfNone, IfOk, IfSome, true};
 ghost use Rattle.topo_io.specs.Means.{MeansTopology};
 
 use crate::back_options::{WayBackOptions, are_back_choices, back_names_of, back_rules_of};
-use crate::refusal::CallRefusal;
 use crate::rules::numeral_of;
 use crate::topologies::topology_of;
+use c_calls::refusal::CallRefusal;
 use decimals::topology::{BackRules, DecimalTransform, TransformFault, text_of, text_on};
 use faults::{Fault, FaultKind, OutOfMemory};
 use numerals::DecimalStep;

@@ -2,7 +2,7 @@
 use Rattle.std.proofs.Common.{◌≡◌, ◌+◌, drop}
 use Rattle.shapes.specs.Maps.{Layers}
 use Rattle.noshinka.specs.Editing.{AreChanged, IsFirstChange}
-use Rattle.noshinka.specs.declared.refusal.CallRefusal.{CallRefusal}
+use Rattle.c_calls.specs.declared.refusal.CallRefusal.{CallRefusal}
 use Rattle.noshinka.proofs.editing.apply_changes.Given as goal
 
 abbrev pub invariant-loop-number : goal.invariant-loop-number

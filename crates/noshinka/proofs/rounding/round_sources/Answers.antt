@@ -1,7 +1,7 @@
 use Rattle.std.proofs.Common.{◌∙◌, ap, map, nat_eq}
 use Rattle.std.proofs.lemmas.Result.{IfErr-weaker, IfOk-weaker}
 use Rattle.outputs.specs.BuiltText.Maps.{borrowed_texts}
-use Rattle.noshinka.specs.Borrowed.{borrowed_sources}
+use Rattle.c_calls.specs.Borrowed.{borrowed_sources}
 use Rattle.noshinka.specs.Rounding.{files_as, names_in}
 use Rattle.noshinka.proofs.Roundings.{sources_files, sources_made, topology_asked}
 use Rattle.noshinka.proofs.rounding.round_sources.Goals as goal

@@ -1,7 +1,7 @@
 use Rattle.std.proofs.Common.{subst}
 use Rattle.std.specs.Result.{IfErr, IfOk}
 use Rattle.topo_io.specs.Means.{MeansTopology}
-use Rattle.noshinka.specs.Why.{IsTextRefusal}
+use Rattle.c_calls.specs.Why.{IsTextRefusal}
 use Rattle.noshinka.proofs.way_back.topology_behind.Goals as goal
 
 pub returns-clause-means : goal.returns-clause-means

@@ -4,6 +4,8 @@ use Rattle.std.specs.List.{range_with_len}
 use Rattle.outputs.specs.BuiltText.Sources.{IsRefusal}
 use Rattle.outputs.specs.declared.built_text.building.BuildFault.{BuildFault}
 use Rattle.outputs.specs.declared.built_text.building.BuildFault.TheVariants as build
+use Rattle.decimals.specs.declared.topology.fault.DecimalFault.{DecimalFault}
+use Rattle.decimals.specs.declared.topology.fault.DecimalFault.TheVariants as decimal
 use Rattle.faults.specs.Fault.{IsWant}
 use Rattle.faults.specs.declared.fault.Fault.{Fault}
 use Rattle.grid.specs.Place.{IsTransform, Transform}
@@ -21,9 +23,9 @@ use Rattle.topo.specs.ItsMap.{ForItsMap}
 use Rattle.topo.specs.Parts.{TopologyParts}
 use Rattle.topo_io.specs.Means.{Means}
 use Rattle.topo_io.specs.Roots.{faults_of_text, grid_of_text}
-use Rattle.noshinka.specs.Options.{name_if, scope_of}
-use Rattle.noshinka.specs.declared.refusal.CallRefusal.{CallRefusal}
-use Rattle.noshinka.specs.declared.refusal.CallRefusal.TheVariants.{BadGrid, BadName, BadChoice, NoId, Text, OtherGrid, NoText, BadPlan, NoLayer, OutOfMemory}
+use Rattle.c_calls.specs.Options.{name_if, scope_of}
+use Rattle.c_calls.specs.declared.refusal.CallRefusal.{CallRefusal}
+use Rattle.c_calls.specs.declared.refusal.CallRefusal.TheVariants.{BadGrid, BadName, BadChoice, NoId, Text, OtherGrid, NoText, BadPlan, NoLayer, OutOfMemory}
 
 -- a fault of a build, of a merge or of a question, as a refusal
 abbrev pub of_build : BuildFault → CallRefusal
@@ -46,6 +48,11 @@ of_maps maps.OutOfMemory = OutOfMemory
 abbrev pub of_query : QueryFault → CallRefusal
 of_query query.NoLayer = NoLayer
 of_query query.OutOfMemory = OutOfMemory
+
+-- the fault of a text in the unit of the map, as a refusal: the unit has too many digits
+abbrev pub of_decimal : DecimalFault → CallRefusal
+of_decimal decimal.TooManyDigits = BadGrid
+of_decimal decimal.OutOfMemory = OutOfMemory
 
 -- the name of the layer is not UTF-8
 abbrev pub HasBadScope : Option (List ℕ) → Type 0

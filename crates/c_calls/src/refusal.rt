@@ -1,18 +1,18 @@
 //! Why a call gives no answer, and how it says so.
 ghost use Rattle.sinks.specs.PathText.PathText.{path_text};
 ghost use Rattle.faults.specs.Fault.{number_of, turn_of};
-ghost use Rattle.noshinka.specs.Ends.{IsFaultOutcome, IsRefused};
-ghost use Rattle.noshinka.specs.Why.{IsFaultAt, of_build};
-ghost use Rattle.noshinka.specs.declared.refusal.CallRefusal.TheVariants as refusal;
+ghost use Rattle.c_calls.specs.Ends.{IsFaultOutcome, IsRefused};
+ghost use Rattle.c_calls.specs.Why.{IsFaultAt, of_build};
+ghost use Rattle.c_calls.specs.declared.refusal.CallRefusal.TheVariants as refusal;
 ghost use Rattle.std.specs.Prelude.{◌≡◌, ◌⊎◌, IfOk, map};
 
 use crate::outcome::CallOutcome;
 use crate::room::put_text;
 use decimals::topology::DecimalFault;
 use faults::{Fault, FaultKind, OutOfMemory, Step};
+use merging::MergeFault;
 use outputs::built_text::BuildFault;
 use query::QueryFault;
-use refine::MergeFault;
 use rounded_maps::MapsFault;
 use sinks::Kept;
 use sinks::path_text::PathText;
@@ -21,7 +21,7 @@ use std::alloc::{AllocError, AllocFailed, Global};
 
 /// Why a call gives no answer.
 #[derive(Drop)]
-pub(crate) enum CallRefusal {
+pub enum CallRefusal {
     /// A number of the grid is outside its limits, or a step or a unit is none, or has too many digits.
     BadGrid,
     /// The name at this place is not UTF-8.
@@ -46,7 +46,7 @@ pub(crate) enum CallRefusal {
 
 impl CallRefusal {
     /// The refusal of the text at a place.
-    pub(crate) fn of_text(place: usize, fault: Fault) -> CallRefusal
+    pub fn of_text(place: usize, fault: Fault) -> CallRefusal
         ensures { IsFaultAt place fault result }
     {
         match fault.kind {
@@ -56,7 +56,7 @@ impl CallRefusal {
     }
 
     /// The refusal of a build.
-    pub(crate) fn of_build(fault: BuildFault) -> CallRefusal
+    pub fn of_build(fault: BuildFault) -> CallRefusal
         ensures { result ≡ of_build fault }
     {
         match fault {
@@ -66,7 +66,7 @@ impl CallRefusal {
     }
 
     /// Puts the path of a fault at the front of the room, if it fits, and says how the call ended.
-    pub(crate) fn outcome(&self, alloc: Global, room: &mut [u8]) -> CallOutcome
+    pub fn outcome(&self, alloc: Global, room: &mut [u8]) -> CallOutcome
         ensures { IsRefused self.now result room.old room.new }
     {
         match self {
@@ -93,7 +93,7 @@ fn number(kind: FaultKind) -> u32
     u32::from(kind.number())
 }
 
-pub(crate) fn outcome_of(status: u32, fault: u32, place: usize) -> CallOutcome
+pub fn outcome_of(status: u32, fault: u32, place: usize) -> CallOutcome
     ensures status { result.status ≡ status }
     ensures fault { result.fault ≡ fault }
     ensures place { result.place ≡ place }
@@ -167,7 +167,7 @@ impl<T: Drop> From<AllocFailed<T>> for CallRefusal {
 }
 
 impl From<MergeFault> for CallRefusal {
-    ghost use Rattle.noshinka.specs.Why.{of_merge};
+    ghost use Rattle.c_calls.specs.Why.{of_merge};
 
     ghost from_gives = { λ e r. r ≡ of_merge e };
 
@@ -182,7 +182,7 @@ impl From<MergeFault> for CallRefusal {
 }
 
 impl From<MapsFault> for CallRefusal {
-    ghost use Rattle.noshinka.specs.Why.{of_maps};
+    ghost use Rattle.c_calls.specs.Why.{of_maps};
 
     ghost from_gives = { λ e r. r ≡ of_maps e };
 
@@ -195,7 +195,7 @@ impl From<MapsFault> for CallRefusal {
 }
 
 impl From<DecimalFault> for CallRefusal {
-    ghost use Rattle.noshinka.specs.WayBack.{of_decimal};
+    ghost use Rattle.c_calls.specs.Why.{of_decimal};
 
     ghost from_gives = { λ e r. r ≡ of_decimal e };
 
@@ -208,7 +208,7 @@ impl From<DecimalFault> for CallRefusal {
 }
 
 impl From<QueryFault> for CallRefusal {
-    ghost use Rattle.noshinka.specs.Why.{of_query};
+    ghost use Rattle.c_calls.specs.Why.{of_query};
 
     ghost from_gives = { λ e r. r ≡ of_query e };
 

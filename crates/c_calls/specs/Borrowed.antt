@@ -1,8 +1,8 @@
 -- What a caller of the library passes for a call.
 use Rattle.std.specs.Prelude.{ℕ, List, map}
 use Rattle.grid.specs.Place.{Transform, scaling, transform}
-use Rattle.noshinka.specs.declared.borrowed.GridNumbers.{GridNumbers}
-use Rattle.noshinka.specs.declared.borrowed.SourceText.{SourceText}
+use Rattle.c_calls.specs.declared.borrowed.GridNumbers.{GridNumbers}
+use Rattle.c_calls.specs.declared.borrowed.SourceText.{SourceText}
 
 -- the bytes of each name and text
 abbrev pub borrowed_sources : List SourceText → List (List ℕ × List ℕ)

@@ -1,7 +1,7 @@
 //! What a caller's texts and room are during a call.
 ghost use Rattle.outputs.specs.BuiltText.Maps.{borrowed_texts};
-ghost use Rattle.noshinka.specs.Borrowed.{grid_of, borrowed_sources};
-ghost use Rattle.noshinka.specs.Why.{IsBadName, IsBadSource};
+ghost use Rattle.c_calls.specs.Borrowed.{grid_of, borrowed_sources};
+ghost use Rattle.c_calls.specs.Why.{IsBadName, IsBadSource};
 ghost use Rattle.grid.specs.Place.{IsTransform};
 ghost use Rattle.std.specs.Prelude.{◌≡◌, IfErr, IfNone, IfOk, IfSome};
 
@@ -28,7 +28,7 @@ pub struct SourceText<'a> {
 }
 
 /// The grid of some numbers, if they are within its limits.
-pub(crate) fn grid_within(numbers: &GridNumbers) -> Option<Grid>
+pub fn grid_within(numbers: &GridNumbers) -> Option<Grid>
     ensures grid { IfSome result (λ g. g ≡ grid_of numbers.now) }
     ensures none { IfNone result (¬ IsTransform (grid_of numbers.now)) }
 {
@@ -41,7 +41,7 @@ pub(crate) fn grid_within(numbers: &GridNumbers) -> Option<Grid>
 }
 
 /// The name of the layer at a place, if it is UTF-8.
-pub(crate) fn name_of(place: usize, name: &[u8]) -> Result<&str, CallRefusal>
+pub fn name_of(place: usize, name: &[u8]) -> Result<&str, CallRefusal>
     ensures name { IfOk result (λ n. n.now ≡ name.now) }
     ensures bad { IfErr result (IsBadName place name.now) }
 {
@@ -52,7 +52,7 @@ pub(crate) fn name_of(place: usize, name: &[u8]) -> Result<&str, CallRefusal>
 }
 
 /// The name and the text of each source, borrowed.
-pub(crate) fn borrow_sources<'a>(
+pub fn borrow_sources<'a>(
     alloc: Global,
     sources: &[SourceText<'a>],
 ) -> Result<Vec<(&'a str, &'a [u8])>, CallRefusal>

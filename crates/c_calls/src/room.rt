@@ -1,5 +1,5 @@
 //! Where a call puts its answer.
-ghost use Rattle.noshinka.specs.Ends.{IsDone, IsEnd, IsRefused};
+ghost use Rattle.c_calls.specs.Ends.{IsDone, IsEnd, IsRefused};
 ghost use Rattle.std.specs.Prelude.{◌≡◌, ◌↔◌, ◌<◌, ◌≤◌, IfErr, IfOk, IsTrue, cond, length, take};
 
 use crate::outcome::CallOutcome;
@@ -7,7 +7,7 @@ use crate::refusal::{CallRefusal, outcome_of};
 use std::alloc::Global;
 
 /// Puts a text at the front of the room, if it fits.
-pub(crate) fn put_text(text: &[u8], room: &mut [u8]) -> bool
+pub fn put_text(text: &[u8], room: &mut [u8]) -> bool
     ensures fits { IsTrue result ↔ (length text.now ≤ length room.old) }
     ensures put { length text.now ≤ length room.old → take (length text.now) room.new ≡ text.now }
     ensures untouched { length room.old < length text.now → room.new ≡ room.old }
@@ -34,11 +34,7 @@ fn put_answer(text: &[u8], room: &mut [u8]) -> CallOutcome
 }
 
 /// Puts what was made at the front of the room, or says why nothing was made.
-pub(crate) fn answer(
-    alloc: Global,
-    made: Result<Vec<u8>, CallRefusal>,
-    room: &mut [u8],
-) -> CallOutcome
+pub fn answer(alloc: Global, made: Result<Vec<u8>, CallRefusal>, room: &mut [u8]) -> CallOutcome
     ensures done { IfOk made (λ t. IsDone t.items result room.old room.new) }
     ensures refused { IfErr made (λ r. IsRefused r result room.old room.new) }
 {
@@ -49,11 +45,7 @@ pub(crate) fn answer(
 }
 
 /// Says what was found, or why nothing was found.
-pub(crate) fn verdict(
-    alloc: Global,
-    found: Result<bool, CallRefusal>,
-    room: &mut [u8],
-) -> CallOutcome
+pub fn verdict(alloc: Global, found: Result<bool, CallRefusal>, room: &mut [u8]) -> CallOutcome
     ensures said { IfOk found (λ b. IsEnd (cond b 0 1) 0 0 result) }
     ensures refused { IfErr found (λ r. IsRefused r result room.old room.new) }
 {

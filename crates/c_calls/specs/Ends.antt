@@ -3,9 +3,9 @@ use Rattle.std.specs.Prelude.{◌≡◌, ◌⊎◌, ℕ, Bool, true, false, ◌<
 use Rattle.sinks.specs.PathText.PathText.{path_text}
 use Rattle.faults.specs.Fault.{number_of, turn_of}
 use Rattle.faults.specs.declared.fault.Fault.{Fault}
-use Rattle.noshinka.specs.declared.outcome.CallOutcome.{CallOutcome}
-use Rattle.noshinka.specs.declared.refusal.CallRefusal.{CallRefusal}
-use Rattle.noshinka.specs.declared.refusal.CallRefusal.TheVariants.{BadGrid, BadName, BadChoice, NoId, Text, OtherGrid, NoText, BadPlan, NoLayer, OutOfMemory}
+use Rattle.c_calls.specs.declared.outcome.CallOutcome.{CallOutcome}
+use Rattle.c_calls.specs.declared.refusal.CallRefusal.{CallRefusal}
+use Rattle.c_calls.specs.declared.refusal.CallRefusal.TheVariants.{BadGrid, BadName, BadChoice, NoId, Text, OtherGrid, NoText, BadPlan, NoLayer, OutOfMemory}
 
 -- the text of the path of a fault
 abbrev pub path_of : Fault → List ℕ

@@ -1,6 +1,6 @@
 //! What the numbers of a caller stand for.
-ghost use Rattle.noshinka.specs.Options.{edges_of, has_no_id, lacks_id, name_if, scope_of};
-ghost use Rattle.noshinka.specs.Why.{IsBadNameIf, IsChoiceRefusal, IsScopeRefusal};
+ghost use Rattle.c_calls.specs.Options.{edges_of, has_no_id, lacks_id, name_if, scope_of};
+ghost use Rattle.c_calls.specs.Why.{IsBadNameIf, IsChoiceRefusal, IsScopeRefusal};
 ghost use Rattle.std.specs.Option.{option_map};
 ghost use Rattle.std.specs.Prelude.{◌≡◌, ◌<◌, ◌≤◌, IfErr, IfOk, OnOk, nat_eq};
 
@@ -11,7 +11,7 @@ use shapes::Id;
 use topo::Geom;
 
 /// Yes for 1, no for 0.
-pub(crate) fn flag(number: u32) -> Result<bool, CallRefusal>
+pub fn flag(number: u32) -> Result<bool, CallRefusal>
     ensures yes { IfOk result (λ b. b ≡ nat_eq number 1) }
     ensures choice { OnOk result (number < 2) }
     ensures bad { IfErr result (IsChoiceRefusal (2 ≤ number)) }
@@ -24,7 +24,7 @@ pub(crate) fn flag(number: u32) -> Result<bool, CallRefusal>
 }
 
 /// The edges that a number stands for; 3 is for those at which a property differs.
-pub(crate) fn edges_named(number: u32) -> Result<Edges, CallRefusal>
+pub fn edges_named(number: u32) -> Result<Edges, CallRefusal>
     ensures edges { IfOk result (λ e. e ≡ edges_of number) }
     ensures choice { OnOk result (number < 4) }
     ensures bad { IfErr result (IsChoiceRefusal (4 ≤ number)) }
@@ -38,7 +38,7 @@ pub(crate) fn edges_named(number: u32) -> Result<Edges, CallRefusal>
 }
 
 /// The name of a layer for 1, none for 0.
-pub(crate) fn scope_named(number: u32, layer: &[u8]) -> Result<Option<&str>, CallRefusal>
+pub fn scope_named(number: u32, layer: &[u8]) -> Result<Option<&str>, CallRefusal>
     ensures scope { IfOk result (λ s. option_map (λ n. n.now) s ≡ scope_of number layer.now) }
     ensures choice { OnOk result (number < 2) }
     ensures bad { IfErr result (IsScopeRefusal number layer.now) }
@@ -54,7 +54,7 @@ pub(crate) fn scope_named(number: u32, layer: &[u8]) -> Result<Option<&str>, Cal
 }
 
 /// A name where it is asked for.
-pub(crate) fn name_if(asked: bool, name: &[u8]) -> Result<Option<&str>, CallRefusal>
+pub fn name_if(asked: bool, name: &[u8]) -> Result<Option<&str>, CallRefusal>
     ensures name { IfOk result (λ n. option_map (λ n. n.now) n ≡ name_if asked name.now) }
     ensures bad { IfErr result (IsBadNameIf asked name.now) }
 {
@@ -75,7 +75,7 @@ fn is_without_id(geometry: &Geom) -> bool
 }
 
 /// Whether one of some geometries has no id.
-pub(crate) fn is_id_missing(geometries: &[Geom]) -> bool
+pub fn is_id_missing(geometries: &[Geom]) -> bool
     ensures { result ≡ lacks_id geometries.now }
 {
     let mut left = geometries;

@@ -3,11 +3,11 @@ use Rattle.std.proofs.Common.{◌≡◌, ℕ, ◌<◌, List, length, map, get_or
 use Rattle.std.specs.Option.{option_map}
 use Rattle.std.specs.Prelude.{slice_get, Some}
 use Rattle.std.proofs.lemmas.Option.{slice_get-map, slice_get-get_or}
-use Rattle.noshinka.specs.Borrowed.{borrowed_sources}
-use Rattle.noshinka.specs.Why.{IsBadName, IsBadSource}
-use Rattle.noshinka.specs.declared.borrowed.SourceText.{SourceText}
-use Rattle.noshinka.specs.declared.refusal.CallRefusal.{CallRefusal}
-use Rattle.noshinka.specs.declared.refusal.CallRefusal.TheVariants.{BadGrid, BadName, BadChoice, NoId, Text, OtherGrid, NoText, BadPlan, NoLayer, OutOfMemory}
+use Rattle.c_calls.specs.Borrowed.{borrowed_sources}
+use Rattle.c_calls.specs.Why.{IsBadName, IsBadSource}
+use Rattle.c_calls.specs.declared.borrowed.SourceText.{SourceText}
+use Rattle.c_calls.specs.declared.refusal.CallRefusal.{CallRefusal}
+use Rattle.c_calls.specs.declared.refusal.CallRefusal.TheVariants.{BadGrid, BadName, BadChoice, NoId, Text, OtherGrid, NoText, BadPlan, NoLayer, OutOfMemory}
 
 name_at : (sources : List SourceText) (i : ℕ) (d : SourceText) → i < length sources → slice_get (map (λ s. s.0) (borrowed_sources sources)) i ≡ Some (get_or sources i d).layer.now
 name_at sources i d below =

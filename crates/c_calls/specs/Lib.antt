@@ -1,0 +1,4 @@
+pub mod Ends
+pub mod Why
+pub mod Options
+pub mod Borrowed
