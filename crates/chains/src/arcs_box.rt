@@ -94,6 +94,16 @@ impl Extent {
         }
     }
 
+    /// A box in which the positions of all tables lie.
+    pub fn around_all(tables: &[ArcTable]) -> Extent
+    {
+        let mut extent = NOWHERE;
+        for table in tables {
+            extent.widen_by(&Extent::around(table));
+        }
+        extent
+    }
+
     /// Widens it by another one.
     pub(crate) fn widen_by(&mut self, other: &Extent)
         ensures west { self.new.west ≡ int_min self.old.west other.now.west }

@@ -8,6 +8,9 @@ ghost use Rattle.std.specs.Prelude.{◌≡◌, ◌++◌, IfOk, List, OnOk};
 ghost use Rattle.theory.specs.Lists.{gathered};
 ghost use Rattle.theory.specs.TopologyFunction.{keep};
 
+use crate::cutting::Piece;
+use crate::recent::count_in_pieces;
+use crate::vertex_filter::inside;
 use crate::visits::{Visit, visit_within};
 use grid::pos::Pos;
 use lines::position_filter::PositionFilter;
@@ -21,7 +24,7 @@ const AGAIN_EACH: usize = 16;
 
 /// The vertices of visits, and of these the ones that came again, each among some others.
 #[derive(Drop)]
-struct Repeats {
+pub(crate) struct Repeats {
     met: PositionFilter,
     again: PositionFilter,
 }
@@ -69,6 +72,71 @@ impl Repeats {
         repeats.add_visits(seams);
         Ok(repeats)
     }
+}
+
+/// The vertices of an arc, of which a free loop's first and last are one.
+fn vertices_once(piece: &Piece) -> &[Pos]
+{
+    let vertices = piece.chain();
+    if piece.is_free() {
+        return vertices.get(1..).unwrap_or(vertices);
+    }
+    vertices
+}
+
+impl Repeats {
+    /// No vertex is noted yet; so many may be.
+    fn for_vertices(alloc: Global, count: usize) -> Result<Repeats, AllocError> {
+        Ok(Repeats {
+            met: PositionFilter::clear(alloc, count / MET_EACH)?,
+            again: PositionFilter::clear(alloc, count / AGAIN_EACH)?,
+        })
+    }
+
+    /// Notes vertices.
+    fn add_vertices(&mut self, vertices: &[Pos])
+    {
+        for vertex in vertices {
+            self.insert(*vertex);
+        }
+    }
+
+    /// Notes the vertices of arcs.
+    fn add_pieces(&mut self, pieces: &[Piece])
+    {
+        for piece in pieces {
+            self.add_vertices(vertices_once(piece));
+        }
+    }
+
+    /// Whether some of the positions may have come again.
+    fn may_repeat(&self, positions: &[Pos]) -> bool
+    {
+        for position in positions {
+            if self.again.may_hold(*position) {
+                return true;
+            }
+        }
+        false
+    }
+
+    /// For each arc whether an inner vertex of it may have come again.
+    fn marks(&self, alloc: Global, pieces: &[Piece]) -> Result<Vec<bool>, AllocError>
+    {
+        let mut marks = Vec::with_capacity(alloc, pieces.len())?;
+        for piece in pieces {
+            marks.push(self.may_repeat(inside(piece.chain(), piece.is_free())))?;
+        }
+        Ok(marks)
+    }
+}
+
+/// For each of some arcs whether an inner vertex of it may be another one's vertex too.
+pub(crate) fn mark_shared(alloc: Global, pieces: &[Piece]) -> Result<Vec<bool>, AllocError>
+{
+    let mut repeats = Repeats::for_vertices(alloc, count_in_pieces(pieces))?;
+    repeats.add_pieces(pieces);
+    repeats.marks(alloc, pieces)
 }
 
 /// Puts the visits of those places last whose vertex came again.

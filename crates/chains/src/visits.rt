@@ -1,4 +1,6 @@
 //! The index of visits: one list of visits, sorted once, of which the junctions are kept.
+mod over_pieces;
+
 ghost use Rattle.chains.specs.Among.{among};
 ghost use Rattle.chains.specs.Extents.{within};
 ghost use Rattle.chains.specs.Holding.{HoldAll};
@@ -21,6 +23,8 @@ ghost use Rattle.theory.specs.Lists.{Has, gathered};
 ghost use Rattle.theory.specs.Refinement.{IsUnionOf, unclosed};
 ghost use Rattle.theory.specs.Segments.{OnThree};
 ghost use Rattle.theory.specs.Topology.{forms_of, lines_in, rings_in};
+
+pub use over_pieces::PiecesIndex;
 
 use crate::arcs_box::Extent;
 use crate::marking::is_marked;

@@ -1,4 +1,5 @@
 pub mod Bounds
 pub mod Parts
+pub mod PartsOfAll
 pub mod Cutting
 pub mod Laws
