@@ -1,10 +1,14 @@
 //! Which visits are at a vertex that others visit too: only these can clash.
 ghost use Rattle.chains.specs.Noted.{noted_in, visits_at};
-ghost use Rattle.chains.specs.Repeats.{AreNoted, HoldsClashing, IsNoted};
+ghost use Rattle.chains.specs.ManyTables as spec;
+ghost use Rattle.chains.specs.ManyTables.{MarkShared, piece_meets};
+ghost use Rattle.chains.specs.Repeats.{AreMet, AreNoted, HoldsClashing, IsNoted};
 ghost use Rattle.chains.specs.VertexFilter.{KeepsClashes};
 ghost use Rattle.chains.specs.declared.visits.Visit.{Visit as Visiting};
 ghost use Rattle.lines.specs.PositionFilter.{may_hold};
-ghost use Rattle.std.specs.Prelude.{◌≡◌, ◌++◌, IfOk, List, OnOk};
+ghost use Rattle.grid.specs.declared.pos.Pos.{Pos};
+ghost use Rattle.std.specs.List.{list_any};
+ghost use Rattle.std.specs.Prelude.{◌≡◌, ◌++◌, IfOk, List, OnOk, map};
 ghost use Rattle.theory.specs.Lists.{gathered};
 ghost use Rattle.theory.specs.TopologyFunction.{keep};
 
@@ -76,12 +80,16 @@ impl Repeats {
 
 /// The vertices of an arc, of which a free loop's first and last are one.
 fn vertices_once(piece: &Piece) -> &[Pos]
+    ensures { result.now ≡ spec.vertices_once piece.now }
 {
     let vertices = piece.chain();
-    if piece.is_free() {
-        return vertices.get(1..).unwrap_or(vertices);
+    if !piece.is_free() {
+        return vertices;
     }
-    vertices
+    match vertices.split_first() {
+        Some((_, others)) => others,
+        None => vertices,
+    }
 }
 
 impl Repeats {
@@ -95,6 +103,7 @@ impl Repeats {
 
     /// Notes vertices.
     fn add_vertices(&mut self, vertices: &[Pos])
+        ensures { (all later : List Pos) → AreMet self.old all (vertices.now ++ later) → AreMet self.new all later }
     {
         for vertex in vertices {
             self.insert(*vertex);
@@ -103,6 +112,7 @@ impl Repeats {
 
     /// Notes the vertices of arcs.
     fn add_pieces(&mut self, pieces: &[Piece])
+        ensures { (all later : List Pos) → AreMet self.old all (gathered spec.vertices_once pieces.now ++ later) → AreMet self.new all later }
     {
         for piece in pieces {
             self.add_vertices(vertices_once(piece));
@@ -111,6 +121,7 @@ impl Repeats {
 
     /// Whether some of the positions may have come again.
     fn may_repeat(&self, positions: &[Pos]) -> bool
+        ensures { result ≡ list_any (may_hold self.now.again) positions.now }
     {
         for position in positions {
             if self.again.may_hold(*position) {
@@ -122,6 +133,7 @@ impl Repeats {
 
     /// For each arc whether an inner vertex of it may have come again.
     fn marks(&self, alloc: Global, pieces: &[Piece]) -> Result<Vec<bool>, AllocError>
+        ensures { IfOk result (λ v. v.items ≡ map (piece_meets (may_hold self.now.again)) pieces.now) }
     {
         let mut marks = Vec::with_capacity(alloc, pieces.len())?;
         for piece in pieces {
@@ -133,10 +145,12 @@ impl Repeats {
 
 /// For each of some arcs whether an inner vertex of it may be another one's vertex too.
 pub(crate) fn mark_shared(alloc: Global, pieces: &[Piece]) -> Result<Vec<bool>, AllocError>
+    ensures { IfOk result (λ v. MarkShared v.items pieces.now) }
 {
     let mut repeats = Repeats::for_vertices(alloc, count_in_pieces(pieces))?;
     repeats.add_pieces(pieces);
-    repeats.marks(alloc, pieces)
+    let marks = repeats.marks(alloc, pieces)?;
+    Ok(marks)
 }
 
 /// Puts the visits of those places last whose vertex came again.

@@ -24,8 +24,6 @@ ghost use Rattle.theory.specs.Refinement.{IsUnionOf, unclosed};
 ghost use Rattle.theory.specs.Segments.{OnThree};
 ghost use Rattle.theory.specs.Topology.{forms_of, lines_in, rings_in};
 
-pub use over_pieces::PiecesIndex;
-
 use crate::arcs_box::Extent;
 use crate::marking::is_marked;
 use crate::recent::{Recent, count_in_map, count_in_marked_arcs, dedup_recent, kept_place};
@@ -36,6 +34,7 @@ use faults::OutOfMemory;
 use grid::pos::Pos;
 use lines::pair::PositionPair;
 use lines::position_filter::PositionFilter;
+pub use over_pieces::PiecesIndex;
 use shapes::feature::Feature;
 use shapes::feature_map::FeatureMap;
 use shapes::shape::Shape;

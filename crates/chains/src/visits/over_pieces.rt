@@ -1,4 +1,14 @@
 //! The index of visits over the arcs of many tables.
+ghost use Rattle.chains.specs.Arcs.{Arcs};
+ghost use Rattle.chains.specs.Index.{IsIndexOf};
+ghost use Rattle.chains.specs.ManyTables.{AreTablesOf, IsUnionOfAll, UnmarkedStayWhole, all_as_map, all_marked_visits, arcs_of_all, marked_visits, piece_ends};
+ghost use Rattle.chains.specs.Noted.{visits_noted};
+ghost use Rattle.chains.specs.Visits.{HaveSame};
+ghost use Rattle.grid.specs.declared.pos.Pos.{Pos};
+ghost use Rattle.std.specs.Prelude.{◌≡◌, ◌++◌, IfOk, List, OnOk};
+ghost use Rattle.theory.specs.Geometry.{Geometry};
+ghost use Rattle.theory.specs.Lists.{gathered};
+
 use super::{VisitIndex, VisitsSeen};
 use crate::cutting::Piece;
 use crate::marking::first_mark;
@@ -18,6 +28,8 @@ pub struct PiecesIndex {
 impl<'a> VisitsSeen<'a> {
     /// Notes the ends of an arc, and its other visits where it is marked.
     fn see_piece(&mut self, piece: &'a Piece, marked: bool) -> Result<(), AllocError>
+        ensures ends { OnOk result (self.new.ends.items ≡ self.old.ends.items ++ piece_ends piece.now) }
+        ensures visits { OnOk result (HaveSame (visits_noted self.new) (visits_noted self.old ++ marked_visits marked piece.now)) }
     {
         self.see_arc_ends(piece.chain(), piece.is_free())?;
         if !marked {
@@ -28,6 +40,8 @@ impl<'a> VisitsSeen<'a> {
 
     /// Notes the ends of arcs, and the other visits of those that are marked.
     fn see_pieces(&mut self, pieces: &'a [Piece], marks: &[bool]) -> Result<(), AllocError>
+        ensures ends { OnOk result (self.new.ends.items ≡ self.old.ends.items ++ gathered piece_ends pieces.now) }
+        ensures visits { OnOk result (HaveSame (visits_noted self.new) (visits_noted self.old ++ all_marked_visits marks.now pieces.now)) }
     {
         let mut left = marks;
         for piece in pieces {
@@ -47,6 +61,9 @@ impl VisitIndex {
     /// # Errors
     /// Where memory is refused.
     pub fn over_pieces(alloc: Global, pieces: &[Piece]) -> Result<PiecesIndex, OutOfMemory>
+        ensures arcs { IfOk result (λ i. (maps : List (Geometry Pos)) (tables : List Arcs) → pieces.now ≡ arcs_of_all tables → AreTablesOf maps tables → IsIndexOf i.index (all_as_map tables)) }
+        ensures union { IfOk result (λ i. (maps : List (Geometry Pos)) (tables : List Arcs) (u : Geometry Pos) → pieces.now ≡ arcs_of_all tables → AreTablesOf maps tables → IsUnionOfAll maps u → IsIndexOf i.index u) }
+        ensures whole { IfOk result (λ i. (maps : List (Geometry Pos)) (tables : List Arcs) → pieces.now ≡ arcs_of_all tables → AreTablesOf maps tables → UnmarkedStayWhole i.index pieces.now i.marks.items) }
     {
         let marks = mark_shared(alloc, pieces)?;
         let mut seen = VisitsSeen::nothing(alloc, count_in_marked_pieces(pieces, &marks))?;
