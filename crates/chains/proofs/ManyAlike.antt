@@ -1,12 +1,12 @@
 -- The arcs of many tables have, as a map, the segments and the junctions of the union of the tables' maps.
-use Rattle.std.proofs.Common.{◌≡◌, ◌⊎◌, ℕ, Bool, true, false, List, [], ◌∷◌, ◌++◌, append-nil, inl, inr, refl, sym, ap, ◌∙◌, subst, map, get_or, Some, slice_get}
+use Rattle.std.proofs.Common.{◌≡◌, ◌⊎◌, Bool, true, false, List, [], ◌∷◌, ◌++◌, append-nil, inl, inr, refl, sym, ap, ◌∙◌, subst, get_or}
 use Rattle.theory.specs.Geometry.{Geometry, IsLineOf, IsRingOf, IsSound, JunctionOf, SegmentOf}
 use Rattle.theory.specs.Junction.{Visit as Seen, Visits}
 use Rattle.theory.specs.Junction.Visit.{end, pair}
 use Rattle.theory.specs.Laws.{IsOrder}
 use Rattle.theory.specs.LinesAndRings.{closed}
 use Rattle.theory.specs.Lists.{Has, Twice, gathered}
-use Rattle.theory.specs.Refinement.{Alike, IsPartOf, unclosed}
+use Rattle.theory.specs.Refinement.{Alike, IsPartOf}
 use Rattle.theory.proofs.ArcsAsMap.{three_map}
 use Rattle.theory.proofs.Lists.{Has-append, Has-append_left, Has-append_right, Has-split}
 use Rattle.theory.proofs.ListsOfLists.{Has-gathered, gathered_from, get_has}
@@ -20,7 +20,7 @@ use Rattle.lines.proofs.Positions.{position_dec, true_false}
 use Rattle.chains.specs.Arcs.{Arcs}
 use Rattle.chains.specs.Index.{AreVisitsOf, IsIndexOf}
 use Rattle.chains.specs.ManyTables.{AreTablesOf, IsUnionOfAll, MarkShared, UnmarkedStayWhole, all_as_map, all_marked_visits, arcs_of_all, lines_of_table, marked_visits, piece_ends, piece_meets, piece_visits, rings_of_table, vertices_once}
-use Rattle.chains.specs.OfArcs.{arc_visits, tables_as_map}
+use Rattle.chains.specs.OfArcs.{tables_as_map}
 use Rattle.chains.specs.Placing.{pieces_under, whole_pieces}
 use Rattle.chains.specs.Table.{IsTableOf}
 use Rattle.chains.specs.VertexFilter.{KeepsClashes, inside}
@@ -29,9 +29,9 @@ use Rattle.chains.specs.declared.cutting.Piece.{Piece}
 use Rattle.chains.specs.declared.visits.Visit.{Visit}
 use Rattle.chains.proofs.Gathered.{clash_seen}
 use Rattle.chains.proofs.ManyTables.{EachIsTable, all_visits_are, each_is, gathered_both, has_marked, line_piece, loop_once, map_of, marked_are, marked_only, piece_arc, ring_piece, said_of, table_of, twice_across, twice_right, visit_free, visit_in, visit_once, visit_there, visit_within}
-use Rattle.chains.proofs.SharedVertices.{around_has, between_there, end_has, inner, mapped_at, stays_whole}
+use Rattle.chains.proofs.SharedVertices.{around_has, between_there, end_has, mapped_at, stays_whole}
 use Rattle.chains.proofs.Sharing.{none_met}
-use Rattle.chains.proofs.TablesAsMap.{free_loop, tables_alike, tables_sound}
+use Rattle.chains.proofs.TablesAsMap.{tables_alike, tables_sound}
 
 order : IsOrder position_cmp
 order = record { total = position_total; same = position_same }

@@ -1,30 +1,28 @@
 -- The arcs of many tables: what they visit as a map, and that a vertex where two of them clash comes twice among their vertices.
-use Rattle.std.proofs.Common.{◌≡◌, Bool, true, false, cond, drop, List, [], ◌∷◌, ◌++◌, append-nil, append_assoc, inl, inr, refl, sym, ap, ◌∙◌, subst, map}
+use Rattle.std.proofs.Common.{◌≡◌, Bool, true, false, cond, drop, List, [], ◌∷◌, ◌++◌, append_assoc, inl, inr, refl, sym, ap, ◌∙◌, subst, map}
 use Rattle.theory.specs.Geometry.{Geometry, IsLineOf, IsRingOf, IsSound, JunctionOf}
 use Rattle.theory.specs.Junction.{Visit as Seen, Visits}
 use Rattle.theory.specs.Junction.Visit.{end, pair}
 use Rattle.theory.specs.LinesAndRings.{around, closed}
-use Rattle.theory.specs.Lists.{Between, Has, Pairwise, Twice, gathered}
+use Rattle.theory.specs.Lists.{Has, Pairwise, Twice, gathered}
 use Rattle.theory.specs.Refinement.{unclosed}
-use Rattle.theory.proofs.Lists.{Has-append, Has-append_left, Has-append_right}
+use Rattle.theory.proofs.Lists.{Has-append_right}
 use Rattle.theory.proofs.ListsOfLists.{Has-gathered, gathered_from}
-use Rattle.theory.proofs.PiecesExist.{own_union}
 use Rattle.grid.specs.declared.pos.Pos.{Pos}
 use Rattle.lines.proofs.Positions.{true_false}
 use Rattle.chains.specs.Arcs.{Arcs}
 use Rattle.chains.specs.Index.{AreVisitsOf}
-use Rattle.chains.specs.ManyTables.{AreTablesOf, MarkShared, all_as_map, all_marked_visits, arcs_of_all, lines_of_table, marked_visits, piece_ends, piece_meets, piece_visits, rings_of_table, vertices_once}
-use Rattle.chains.specs.OfArcs.{arc_visits, tables_as_map}
+use Rattle.chains.specs.ManyTables.{AreTablesOf, all_as_map, all_marked_visits, arcs_of_all, lines_of_table, marked_visits, piece_ends, piece_meets, piece_visits, rings_of_table, vertices_once}
 use Rattle.chains.specs.Placing.{whole_pieces}
 use Rattle.chains.specs.Table.{is_loop, IsTableOf}
-use Rattle.chains.specs.VertexFilter.{KeepsClashes, inside, whole}
-use Rattle.chains.specs.Visits.{HaveSame, around_of, ends_of, inner_of, visit_of}
+use Rattle.chains.specs.VertexFilter.{inside, whole}
+use Rattle.chains.specs.Visits.{around_of, ends_of, inner_of, visit_of}
 use Rattle.chains.specs.declared.cutting.Piece.{Piece}
 use Rattle.chains.specs.declared.visits.Visit.{Visit}
-use Rattle.chains.proofs.Gathered.{between_has, clash_seen, ends_has, found_in, has_ends}
+use Rattle.chains.proofs.Gathered.{between_has, ends_has, found_in, has_ends}
 use Rattle.chains.proofs.SharedVertices.{inner, inside_has, visit_inside}
 use Rattle.chains.proofs.Sharing.{none_met}
-use Rattle.chains.proofs.TablesAsMap.{free_loop, has_loop, has_open, loop_has, open_has, tables_alike, tables_sound}
+use Rattle.chains.proofs.TablesAsMap.{free_loop, has_loop, has_open, loop_has, open_has}
 
 -- what is gathered from two lists
 pub gathered_both : {A B : Type 0} (f : A → List B) (xs ys : List A) → gathered f (xs ++ ys) ≡ gathered f xs ++ gathered f ys

@@ -1,4 +1,4 @@
-use Rattle.std.proofs.Common.{drop, List, ◌⊎◌}
+use Rattle.std.proofs.Common.{drop, ◌⊎◌}
 use Rattle.theory.specs.Lists.{Has}
 use Rattle.chains.specs.Arcs.{Arcs}
 use Rattle.chains.specs.Extents.{within}
