@@ -91,8 +91,8 @@ all_held may js tables arcs marks ps new e f once h c k v z =
     let p = map_has chain_of ps c (once.only c k) in
     from_held may js marks 0 arcs
     (λ q m.
-        let g = gathered_from whole_pieces tables q (subst (Has q) e m) in
-        whole_held may g.0 (h g.0 g.1) q g.2)
+    let g = gathered_from whole_pieces tables q (subst (Has q) e m) in
+    whole_held may g.0 (h g.0 g.1) q g.2)
     p.0 (subst (Has p.0) f p.1) v (subst (Has v) p.2 z)
 
 -- what is at a place of a part of a list

@@ -145,10 +145,7 @@ impl RecutAll {
 
 /// The arcs of tables, one table after another, and where those of each begin, and last where those of
 /// the last one end.
-fn list_arcs(
-    alloc: Global,
-    tables: Vec<ArcTable>,
-) -> Result<(Vec<Piece>, Vec<usize>), OutOfMemory>
+fn list_arcs(alloc: Global, tables: Vec<ArcTable>) -> Result<(Vec<Piece>, Vec<usize>), OutOfMemory>
     ensures arcs { IfOk result (λ r. r.0.items ≡ arcs_of_all tables.items) }
     ensures begins { IfOk result (λ r. r.1.items ≡ bounds_of (map whole_pieces tables.items)) }
 {
