@@ -1,6 +1,5 @@
 -- The pieces of the arcs of many tables in one list, and for each table those of its arcs again.
-use Rattle.std.proofs.Common.{◌≡◌, ◌≤◌, ◌<◌, ℕ, zero, suc, ◌+◌, ◌-◌, Bool, true, false, cond, get_or, List, [], ◌∷◌, ◌++◌, map, length, take, drop, slice_get, Some, None, inl, inr, refl, sym, ap, ◌∙◌, subst, arith}
-use Rattle.std.specs.Prelude.{unwrap_or}
+use Rattle.std.proofs.Common.{◌≡◌, ◌≤◌, ◌<◌, ℕ, zero, suc, ◌+◌, ◌-◌, Bool, true, false, cond, get_or, List, [], ◌∷◌, map, take, drop, slice_get, Some, None, refl, sym, ap, ◌∙◌, subst, arith}
 use Rattle.std.specs.List.{between}
 use Rattle.std.proofs.lemmas.Simd.{map-map}
 use Rattle.theory.specs.ArcNumbers.{ArcRef}
@@ -19,7 +18,6 @@ use Rattle.chains.specs.VertexFilter.{whole}
 use Rattle.chains.specs.declared.cutting.Piece.{Piece}
 use Rattle.split_arcs.specs.Bounds.{bounds_of, list_at, parts_between}
 use Rattle.split_arcs.specs.Cutting.{arc_used, pieces_from}
-use Rattle.split_arcs.specs.PartsOfAll.{RecutAllParts, of_table}
 use Rattle.split_arcs.proofs.Bounds.{between_again}
 use Rattle.split_arcs.proofs.Held.{from_held, whole_held}
 use Rattle.split_arcs.proofs.Parted.{joined_map}

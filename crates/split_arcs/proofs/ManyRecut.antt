@@ -1,6 +1,5 @@
 -- The arcs of many tables, cut again: the table of all maps together, and its arcs in place of the old ones.
-use Rattle.std.proofs.Common.{◌≡◌, ℕ, zero, suc, Bool, true, false, List, [], ◌∷◌, map, ◌⊎◌, inl, inr, refl, sym, ap, ◌∙◌, subst, Some, slice_get}
-use Rattle.theory.specs.ArcNumbers.{ArcRef}
+use Rattle.std.proofs.Common.{◌≡◌, ℕ, zero, suc, Bool, true, false, List, [], ◌∷◌, map, ◌⊎◌, inl, inr, refl, sym, subst, Some, slice_get}
 use Rattle.theory.specs.Arcs.{AreSortedOnce}
 use Rattle.theory.specs.Chain.{Free}
 use Rattle.theory.specs.Geometry.{Geometry, IsSound, IsLineOf, IsRingOf, JunctionOf}
@@ -17,7 +16,7 @@ use Rattle.chains.specs.ArcPieces.{pieces_at}
 use Rattle.chains.specs.Arcs.{Arcs}
 use Rattle.chains.specs.Index.{IsIndexOf}
 use Rattle.chains.specs.ManyTables.{AreTablesOf, IsUnionOfAll, all_as_map, arcs_of_all, lines_of_table, rings_of_table}
-use Rattle.chains.specs.OfArcs.{open_in, loops_in, arc_pieces}
+use Rattle.chains.specs.OfArcs.{open_in, loops_in}
 use Rattle.chains.specs.Pieces.{chain_of, line_pieces, ring_pieces}
 use Rattle.chains.specs.Placing.{pieces_under, whole_pieces}
 use Rattle.chains.specs.Table.{is_loop, located, ArePiecesOfMap, IsTableOf}
