@@ -32,10 +32,13 @@ pub mod Slices
 pub mod Extents
 pub mod Sharing
 pub mod Recurring
+pub mod MetVertices
 pub mod SharedVertices
 pub mod Apart
 pub mod PartsHeld
 pub mod TablesAsMap
+pub mod ManyTables
+pub mod ManyAlike
 pub mod ArcsCut
 pub mod Stepping
 pub mod Siding

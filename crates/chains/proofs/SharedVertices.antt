@@ -43,7 +43,7 @@ last_has : (x : Pos) (r : List Pos) → Has (last_of x r) (x ∷ r)
 last_has x [] = inl refl
 last_has x (y ∷ r) = inr (last_has y r)
 
-end_has : (v : Pos) (l : List Pos) → EndOf v l → Has v l
+pub end_has : (v : Pos) (l : List Pos) → EndOf v l → Has v l
 end_has v [] h = absurd h
 end_has v (x ∷ r) (inl e) = inl e
 end_has v (x ∷ r) (inr e) = subst (λ w. Has w (x ∷ r)) (sym e) (last_has x r)
@@ -54,7 +54,7 @@ begins_has a v b (x ∷ []) (inl h) = absurd h.1
 begins_has a v b (x ∷ (y ∷ l)) (inl h) = inr (inl h.1.0)
 begins_has a v b (x ∷ l) (inr h) = inr (begins_has a v b l h)
 
-between_there : (a v b : Pos) (l : List Pos) → Between a v b l → Has v l
+pub between_there : (a v b : Pos) (l : List Pos) → Between a v b l → Has v l
 between_there a v b l (inl h) = begins_has a v b l h
 between_there a v b l (inr h) = begins_has b v a l h
 
@@ -63,7 +63,7 @@ round_has a v b [] h = absurd h
 round_has a v b (x ∷ []) h = absurd h
 round_has a v b (x ∷ (y ∷ l)) h = inr (middle_has x a v b y ((y ∷ l) ++ (x ∷ [])) (subst (Passes a v b) (closed_around x y l) h))
 
-around_has : (a v b : Pos) (r : List Pos) → Between a v b (around r) → Has v (closed r)
+pub around_has : (a v b : Pos) (r : List Pos) → Between a v b (around r) → Has v (closed r)
 around_has a v b r (inl h) = round_has a v b r h
 around_has a v b r (inr h) = round_has b v a r h
 
@@ -90,7 +90,7 @@ passes_inside a v b (x ∷ (y ∷ (z ∷ r))) (inl h) = inl h.1.0
 passes_inside a v b (x ∷ (y ∷ (z ∷ r))) (inr h) = inr (passes_inside a v b (y ∷ (z ∷ r)) h)
 
 -- the visits of an arc are at its inner vertices
-visit_inside : (m : Geometry Pos) (sm : IsSound m) (s : Arcs) (ms : IsTableOf m s) (c : List Pos) → Has c s.arcs → (w : Visit) → Has w (arc_visits s.loops c) → Has w.vertex (inside (is_loop s.loops c) c)
+pub visit_inside : (m : Geometry Pos) (sm : IsSound m) (s : Arcs) (ms : IsTableOf m s) (c : List Pos) → Has c s.arcs → (w : Visit) → Has w (arc_visits s.loops c) → Has w.vertex (inside (is_loop s.loops c) c)
 visit_inside m sm s ms c h w = go (is_loop s.loops c) refl
   where
     go : (b : Bool) → is_loop s.loops c ≡ b → Has w (cond b (around_of (unclosed c)) (inner_of c)) → Has w.vertex (inside b c)
@@ -100,7 +100,7 @@ visit_inside m sm s ms c h w = go (is_loop s.loops c) refl
     go false e k = let f = found_in w c k in passes_inside f.before w.vertex f.next c f.there
 
 -- a visit of an arc of a map is at no junction of it
-inner : (m : Geometry Pos) (sm : IsSound m) (s : Arcs) (ms : IsTableOf m s) (c : List Pos) → Has c s.arcs → (w : Visit) → Has w (arc_visits s.loops c) → ¬ JunctionOf m w.vertex
+pub inner : (m : Geometry Pos) (sm : IsSound m) (s : Arcs) (ms : IsTableOf m s) (c : List Pos) → Has c s.arcs → (w : Visit) → Has w (arc_visits s.loops c) → ¬ JunctionOf m w.vertex
 inner m sm s ms c h w = go (is_loop s.loops c) refl
   where
     passed : (l : List Pos) → IsChainOf position_cmp m l → (a b : Pos) → Passes a w.vertex b l → ¬ JunctionOf m w.vertex
@@ -208,7 +208,7 @@ module _ (m : Geometry Pos) (sm : IsSound m) (s : Arcs) (ms : IsTableOf m s) (a 
       go true e f = loop_whole c (ms.arcs.arcs_only c h) (free_loop m sm s ms c h e).0 f
       go false e f = open_whole c (ms.arcs.arcs_only c h) f
 
-mapped_at : {A : Type 0} (f : A → Bool) (l : List A) (i : ℕ) (x : A) → slice_get l i ≡ Some x → get_or (map f l) i true ≡ f x
+pub mapped_at : {A : Type 0} (f : A → Bool) (l : List A) (i : ℕ) (x : A) → slice_get l i ≡ Some x → get_or (map f l) i true ≡ f x
 mapped_at f [] i x e = absurd cc
 mapped_at f (y ∷ l) zero x e = ap f cc
 mapped_at f (y ∷ l) (suc i) x e = mapped_at f l i x e

@@ -23,3 +23,4 @@ pub mod Joined
 pub mod OfArcs
 pub mod Along
 pub mod Turning
+pub mod ManyTables

@@ -1,6 +1,6 @@
 -- The vertices that come again among visits.
 use Rattle.std.specs.Prelude.{◌≡◌, Bool, true, List, ◌⊎◌}
-use Rattle.theory.specs.Lists.{Has}
+use Rattle.theory.specs.Lists.{Has, Twice}
 use Rattle.grid.specs.declared.pos.Pos.{Pos}
 use Rattle.lines.specs.PositionFilter.{may_hold}
 use Rattle.lines.specs.Holding.{Keeps}
@@ -22,3 +22,8 @@ pub record AreNoted (r : Repeats) (all left : List Visit) : Type 0 where
 -- it holds of each vertex where visits clash
 abbrev pub HoldsClashing : (Pos → Bool) → List Visit → Type 0
 HoldsClashing may visits = (v w : Visit) → Has v visits → Has w visits → v.vertex ≡ w.vertex → ¬ (v ≡ w) → may v.vertex ≡ true
+
+-- of all vertices, those that are not met are still to come; of one that is twice among all one is to come that comes again behind or is met, or it came again
+pub record AreMet (r : Repeats) (all left : List Pos) : Type 0 where
+  pub met : (v : Pos) → Has v all → Has v left ⊎ (may_hold r.met v ≡ true)
+  pub again : (v : Pos) → Twice v all → (Has v left × (Twice v left ⊎ (may_hold r.met v ≡ true))) ⊎ (may_hold r.again v ≡ true)

@@ -1,9 +1,11 @@
 //! A box in which the positions of a table's arcs lie.
+ghost use Rattle.chains.specs.Arcs.{Arcs};
 ghost use Rattle.chains.specs.Extents.{between, within};
 ghost use Rattle.chains.specs.Holding.{HoldAll};
 ghost use Rattle.lines.specs.Holding.{AreMarked};
 ghost use Rattle.std.specs.Int.{int_min, int_max};
 ghost use Rattle.std.specs.Prelude.{◌≡◌};
+ghost use Rattle.theory.specs.Lists.{Has};
 
 use crate::table::ArcTable;
 use grid::limits::{GREATEST_GRID_NUMBER, LEAST_GRID_NUMBER};
@@ -92,6 +94,17 @@ impl Extent {
             Some(extent) => extent,
             None => Extent::find(table),
         }
+    }
+
+    /// A box in which the positions of all tables lie.
+    pub fn around_all(tables: &[ArcTable]) -> Extent
+        ensures { (t : Arcs) → Has t tables.now → HoldAll (within result) t.arcs }
+    {
+        let mut extent = NOWHERE;
+        for table in tables {
+            extent.widen_by(&Extent::around(table));
+        }
+        extent
     }
 
     /// Widens it by another one.

@@ -36,4 +36,4 @@ pub use segment::Segment;
 pub use sides::segments_of;
 pub use table::{ArcRef, ArcTable};
 pub use turning::turn_ring;
-pub use visits::{ArcsIndex, VisitIndex};
+pub use visits::{ArcsIndex, PiecesIndex, VisitIndex};

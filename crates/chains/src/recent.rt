@@ -2,7 +2,8 @@
 ghost use Rattle.chains.specs.Visits.{HaveSame};
 ghost use Rattle.std.specs.Prelude.{◌++◌, ◌∷◌, [], IfOk, OnOk};
 
-use crate::marking::is_marked;
+use crate::cutting::Piece;
+use crate::marking::{first_mark, is_marked};
 use crate::table::ArcTable;
 use grid::pos::Pos;
 use lines::position_filter::place_among;
@@ -51,6 +52,29 @@ pub(crate) fn count_in_marked_arcs(table: &ArcTable, marks: &[bool]) -> usize {
         if is_marked(marks, number) {
             count = count.saturating_add(table.arc(number).map_or(0, |arc| arc.len()));
         }
+    }
+    count
+}
+
+/// How many positions arcs have.
+pub(crate) fn count_in_pieces(pieces: &[Piece]) -> usize {
+    let mut count: usize = 0;
+    for piece in pieces {
+        count = count.saturating_add(piece.chain().len());
+    }
+    count
+}
+
+/// How many positions the marked ones of some arcs have.
+pub(crate) fn count_in_marked_pieces(pieces: &[Piece], marks: &[bool]) -> usize {
+    let mut count: usize = 0;
+    let mut left = marks;
+    for piece in pieces {
+        let (marked, others) = first_mark(left);
+        if marked {
+            count = count.saturating_add(piece.chain().len());
+        }
+        left = others;
     }
     count
 }

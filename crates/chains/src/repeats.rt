@@ -1,13 +1,20 @@
 //! Which visits are at a vertex that others visit too: only these can clash.
 ghost use Rattle.chains.specs.Noted.{noted_in, visits_at};
-ghost use Rattle.chains.specs.Repeats.{AreNoted, HoldsClashing, IsNoted};
+ghost use Rattle.chains.specs.ManyTables as spec;
+ghost use Rattle.chains.specs.ManyTables.{MarkShared, piece_meets};
+ghost use Rattle.chains.specs.Repeats.{AreMet, AreNoted, HoldsClashing, IsNoted};
 ghost use Rattle.chains.specs.VertexFilter.{KeepsClashes};
 ghost use Rattle.chains.specs.declared.visits.Visit.{Visit as Visiting};
 ghost use Rattle.lines.specs.PositionFilter.{may_hold};
-ghost use Rattle.std.specs.Prelude.{◌≡◌, ◌++◌, IfOk, List, OnOk};
+ghost use Rattle.grid.specs.declared.pos.Pos.{Pos};
+ghost use Rattle.std.specs.List.{list_any};
+ghost use Rattle.std.specs.Prelude.{◌≡◌, ◌++◌, IfOk, List, OnOk, map};
 ghost use Rattle.theory.specs.Lists.{gathered};
 ghost use Rattle.theory.specs.TopologyFunction.{keep};
 
+use crate::cutting::Piece;
+use crate::recent::count_in_pieces;
+use crate::vertex_filter::inside;
 use crate::visits::{Visit, visit_within};
 use grid::pos::Pos;
 use lines::position_filter::PositionFilter;
@@ -21,7 +28,7 @@ const AGAIN_EACH: usize = 16;
 
 /// The vertices of visits, and of these the ones that came again, each among some others.
 #[derive(Drop)]
-struct Repeats {
+pub(crate) struct Repeats {
     met: PositionFilter,
     again: PositionFilter,
 }
@@ -69,6 +76,81 @@ impl Repeats {
         repeats.add_visits(seams);
         Ok(repeats)
     }
+}
+
+/// The vertices of an arc, of which a free loop's first and last are one.
+fn vertices_once(piece: &Piece) -> &[Pos]
+    ensures { result.now ≡ spec.vertices_once piece.now }
+{
+    let vertices = piece.chain();
+    if !piece.is_free() {
+        return vertices;
+    }
+    match vertices.split_first() {
+        Some((_, others)) => others,
+        None => vertices,
+    }
+}
+
+impl Repeats {
+    /// No vertex is noted yet; so many may be.
+    fn for_vertices(alloc: Global, count: usize) -> Result<Repeats, AllocError> {
+        Ok(Repeats {
+            met: PositionFilter::clear(alloc, count / MET_EACH)?,
+            again: PositionFilter::clear(alloc, count / AGAIN_EACH)?,
+        })
+    }
+
+    /// Notes vertices.
+    fn add_vertices(&mut self, vertices: &[Pos])
+        ensures { (all later : List Pos) → AreMet self.old all (vertices.now ++ later) → AreMet self.new all later }
+    {
+        for vertex in vertices {
+            self.insert(*vertex);
+        }
+    }
+
+    /// Notes the vertices of arcs.
+    fn add_pieces(&mut self, pieces: &[Piece])
+        ensures { (all later : List Pos) → AreMet self.old all (gathered spec.vertices_once pieces.now ++ later) → AreMet self.new all later }
+    {
+        for piece in pieces {
+            self.add_vertices(vertices_once(piece));
+        }
+    }
+
+    /// Whether some of the positions may have come again.
+    fn may_repeat(&self, positions: &[Pos]) -> bool
+        ensures { result ≡ list_any (may_hold self.now.again) positions.now }
+    {
+        for position in positions {
+            if self.again.may_hold(*position) {
+                return true;
+            }
+        }
+        false
+    }
+
+    /// For each arc whether an inner vertex of it may have come again.
+    fn marks(&self, alloc: Global, pieces: &[Piece]) -> Result<Vec<bool>, AllocError>
+        ensures { IfOk result (λ v. v.items ≡ map (piece_meets (may_hold self.now.again)) pieces.now) }
+    {
+        let mut marks = Vec::with_capacity(alloc, pieces.len())?;
+        for piece in pieces {
+            marks.push(self.may_repeat(inside(piece.chain(), piece.is_free())))?;
+        }
+        Ok(marks)
+    }
+}
+
+/// For each of some arcs whether an inner vertex of it may be another one's vertex too.
+pub(crate) fn mark_shared(alloc: Global, pieces: &[Piece]) -> Result<Vec<bool>, AllocError>
+    ensures { IfOk result (λ v. MarkShared v.items pieces.now) }
+{
+    let mut repeats = Repeats::for_vertices(alloc, count_in_pieces(pieces))?;
+    repeats.add_pieces(pieces);
+    let marks = repeats.marks(alloc, pieces)?;
+    Ok(marks)
 }
 
 /// Puts the visits of those places last whose vertex came again.

@@ -1,4 +1,6 @@
 //! The index of visits: one list of visits, sorted once, of which the junctions are kept.
+mod over_pieces;
+
 ghost use Rattle.chains.specs.Among.{among};
 ghost use Rattle.chains.specs.Extents.{within};
 ghost use Rattle.chains.specs.Holding.{HoldAll};
@@ -32,6 +34,7 @@ use faults::OutOfMemory;
 use grid::pos::Pos;
 use lines::pair::PositionPair;
 use lines::position_filter::PositionFilter;
+pub use over_pieces::PiecesIndex;
 use shapes::feature::Feature;
 use shapes::feature_map::FeatureMap;
 use shapes::shape::Shape;

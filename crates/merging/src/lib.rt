@@ -3,7 +3,7 @@
 #![tactic(auto)]
 
 pub mod fault;
-mod joining;
+pub mod joining;
 pub mod laws;
 pub mod merge;
 pub mod plan;
@@ -11,6 +11,7 @@ pub mod shard;
 mod z_order;
 
 pub use fault::{JoinFault, MergeFault, PlanFault};
+pub use joining::join_all;
 pub use merge::{merge_all, merge_as};
 pub use plan::{Plan, first_bad_leaf, named_indexes, run_plan};
 pub use shard::Shard;

@@ -9,7 +9,6 @@ ghost use Rattle.std.specs.Prelude.{◌≡◌, ◌<◌, ℕ, List, IfOk, IfErr, 
 ghost use Rattle.topo_io.specs.Means.{Means};
 
 use crate::fault::MergeFault;
-use crate::joining::join_all;
 use crate::plan::{Plan, first_bad_leaf, named_indexes};
 use crate::shard::{Shard, same_grid};
 use faults::{Fault, FaultKind};
@@ -123,7 +122,7 @@ fn merge_marked<S: Shard, T: AsSlice<u8> + Drop>(
     if let Some(number) = first_other(&grids) {
         return Err(MergeFault::OtherGrid(number));
     }
-    match join_all(alloc, shards) {
+    match S::join_many(alloc, shards) {
         Ok(shard) => Ok(shard),
         Err(_) => Err(MergeFault::OutOfMemory),
     }

@@ -1,5 +1,6 @@
 pub mod MeantTexts
 pub mod JoinedParts
+pub mod ManyParts
 pub mod WrittenTexts
 mod LeftTold
 mod DifferenceTold

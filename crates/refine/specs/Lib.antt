@@ -2,6 +2,7 @@ pub mod Edits
 pub mod EditLaws
 pub mod TextLaws
 pub mod OnGrid
+pub mod ManyLayers
 pub mod Lent
 pub mod LeftLists
 pub mod Removals

@@ -235,7 +235,7 @@ fn layer_with(
 }
 
 /// The layers of two lists in the order of their names, those of one name together.
-fn layers_of_both(
+pub(crate) fn layers_of_both(
     alloc: Global,
     arcs: &ArcTable,
     left: Vec<Layer>,

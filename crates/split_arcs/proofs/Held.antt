@@ -17,7 +17,7 @@ use Rattle.chains.proofs.PartsHeld.{under_has}
 use Rattle.split_arcs.specs.Cutting.{pieces_from, table_pieces}
 
 module _ (may : Pos → Bool) where
-  from_held : (js : List Pos) (marks : List Bool) (n : ℕ) (qs : List Piece) → ((q : Piece) → Has q qs → Holds may q.chain) →
+  pub from_held : (js : List Pos) (marks : List Bool) (n : ℕ) (qs : List Piece) → ((q : Piece) → Has q qs → Holds may q.chain) →
       (p : Piece) → Has p (joined (pieces_from js marks n qs)) → Holds may p.chain
   from_held js marks n [] h p k = absurd k
   from_held js marks n (q ∷ qs) h p k =
@@ -31,7 +31,7 @@ module _ (may : Pos → Bool) where
       first false (inl e) v z = h q (inl refl) v (subst (λ (w : Piece). Has v w.chain) e z)
       first false (inr m) v z = absurd m
 
-  whole_held : (t : Arcs) → HoldAll may t.arcs → (q : Piece) → Has q (whole_pieces t) → Holds may q.chain
+  pub whole_held : (t : Arcs) → HoldAll may t.arcs → (q : Piece) → Has q (whole_pieces t) → Holds may q.chain
   whole_held t h q k =
       let g = gathered_from (whole t.loops) t.arcs q k in
       elim g.2 [

@@ -17,11 +17,11 @@ use Rattle.split_arcs.specs.Cutting.{arc_used, pieces_from, table_pieces}
 use Rattle.split_arcs.specs.Parts.{RecutParts}
 use Rattle.split_arcs.proofs.Bounds.{between_again}
 
-joined_map : {A B : Type 0} (f : A → List B) (l : List A) → joined (map f l) ≡ gathered f l
+pub joined_map : {A B : Type 0} (f : A → List B) (l : List A) → joined (map f l) ≡ gathered f l
 joined_map f [] = refl
 joined_map f (x ∷ l) = ap (λ w. f x ++ w) (joined_map f l)
 
-length_from : (js : List Pos) (marks : List Bool) (n : ℕ) (ps : List Piece) → length (pieces_from js marks n ps) ≡ length ps
+pub length_from : (js : List Pos) (marks : List Bool) (n : ℕ) (ps : List Piece) → length (pieces_from js marks n ps) ≡ length ps
 length_from js marks n [] = refl
 length_from js marks n (p ∷ ps) = ap suc (length_from js marks (n + 1) ps)
 

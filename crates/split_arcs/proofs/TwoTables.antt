@@ -38,20 +38,20 @@ module _ (js : List Pos) (m : Geometry Pos) (sm : IsSound m) (t : Arcs) (mt : Is
   abbrev pub pieces_in : List Piece
   pieces_in = gathered (arc_pieces js t.loops) t.arcs
 
-  open_there : (l : List Pos) → Has l (open_in t.loops t.arcs) → (p : Piece) → Has p (line_pieces js l) → Has p (gathered (arc_pieces js t.loops) t.arcs)
+  pub open_there : (l : List Pos) → Has l (open_in t.loops t.arcs) → (p : Piece) → Has p (line_pieces js l) → Has p (gathered (arc_pieces js t.loops) t.arcs)
   open_there l h p k =
       let o = open_has t.loops t.arcs l h in
       Has-gathered (arc_pieces js t.loops) t.arcs l p o.0
       (in_second p (loop_pieces (among js) l) (line_pieces js l) (is_loop t.loops l) o.1 k)
 
-  loop_there : (r : List Pos) → Has r (loops_in t.loops t.arcs) → (p : Piece) → Has p (ring_pieces js r) → Has p (gathered (arc_pieces js t.loops) t.arcs)
+  pub loop_there : (r : List Pos) → Has r (loops_in t.loops t.arcs) → (p : Piece) → Has p (ring_pieces js r) → Has p (gathered (arc_pieces js t.loops) t.arcs)
   loop_there r h p k =
       let o = loop_has t.loops t.arcs r h in
       Has-gathered (arc_pieces js t.loops) t.arcs o.0 p o.1
       (in_first p (loop_pieces (among js) o.0) (line_pieces js o.0) (is_loop t.loops o.0) o.2
       (subst (Has p) (sym (loop_as_ring m sm t mt js o.0 o.1 o.2)) (subst (λ w. Has p (ring_pieces js w)) o.3 k)))
 
-  from : (p : Piece) → Has p (gathered (arc_pieces js t.loops) t.arcs) →
+  pub from : (p : Piece) → Has p (gathered (arc_pieces js t.loops) t.arcs) →
       ((l : List Pos) × Has l (open_in t.loops t.arcs) × Has p (line_pieces js l)) ⊎ ((r : List Pos) × Has r (loops_in t.loops t.arcs) × Has p (ring_pieces js r))
   from p h =
       let k = gathered_from (arc_pieces js t.loops) t.arcs p h in

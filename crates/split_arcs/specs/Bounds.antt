@@ -1,5 +1,5 @@
 -- Lists that are one after another in one list, and the places where they begin and end.
-use Rattle.std.specs.Prelude.{ℕ, ◌+◌, ◌≤◌, List, [], ◌∷◌, length}
+use Rattle.std.specs.Prelude.{ℕ, ◌+◌, ◌≤◌, List, [], ◌∷◌, length, slice_get, unwrap_or}
 use Rattle.std.specs.List.{between}
 
 -- the parts of a list that begin at n and then where the one before ends, and end at these places
@@ -30,3 +30,7 @@ ends_from n (l ∷ ls) = (n + length l) ∷ ends_from (n + length l) ls
 -- the bounds of lists that are one after another
 abbrev pub bounds_of : {A : Type 0} → List (List A) → List ℕ
 bounds_of ls = 0 ∷ ends_from 0 ls
+
+-- the list at a place; past the last one none
+abbrev pub list_at : {A : Type 0} → ℕ → List (List A) → List A
+list_at n ls = unwrap_or (slice_get ls n) []

@@ -21,7 +21,7 @@ use std::alloc::{AllocError, Global};
 
 /// Adds the pieces of the arcs of a table, of which those that are not marked are not cut; and answers
 /// where the pieces of each arc begin among those that are added, and last how many are added.
-fn add_table(
+pub(crate) fn add_table(
     alloc: Global,
     pieces: &mut Vec<Piece>,
     index: &VisitIndex,

@@ -18,8 +18,8 @@ returns-in-Some-clause-fault g c = λ is are.
     grids_merge (λ m. m.grid) (λ m. m.layers) texts k.meanings c.in_ok-grids.grids.items is c.in-Some.number indexes k.read k.grids_of
     (ap (first_other (λ g. g)) (sym c.deref.ensures.value) ∙ sym c.in-Some.ensures)
 
-pub join_all-requires : goal.join_all-requires
-join_all-requires g c =
+pub join_many-requires : goal.join_many-requires
+join_many-requires g c =
     let texts = map g.T.AsSlice.items c.args.texts.items in
     let count = length_bytes g.T.AsSlice.items c.args.texts.items in
     let marks = c.args.marks.now in

@@ -1,4 +1,4 @@
-use Rattle.std.proofs.Common.{◌≡◌, ◌∙◌, ap, drop, take}
+use Rattle.std.proofs.Common.{◌∙◌, ap, drop, take}
 use Rattle.chains.specs.Extents.{within}
 use Rattle.chains.specs.Table.{located}
 use Rattle.chains.specs.Placing.{whole_pieces}
