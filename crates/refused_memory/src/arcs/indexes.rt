@@ -1,6 +1,7 @@
 //! Indexes of visits.
 
 use chains::VisitIndex;
+use chains::cutting::Piece;
 use faults::OutOfMemory;
 use grid::Pos;
 use refused_calls::calls::Lent;
@@ -64,18 +65,34 @@ fn over_arcs(alloc: Global, indexing: &Indexing) -> Result<bool, OutOfMemory> {
     Ok(has_junctions(&made.index))
 }
 
+/// The arcs of both topologies, those of the left one first.
+fn arcs_of_both(alloc: Global, indexing: &Indexing) -> Result<Vec<Piece>, OutOfMemory> {
+    let mut arcs = indexing.left.arcs().share(alloc)?.into_pieces(alloc)?;
+    let mut others = indexing.right.arcs().share(alloc)?.into_pieces(alloc)?;
+    arcs.append(&mut others)?;
+    Ok(arcs)
+}
+
+fn over_pieces(alloc: Global, indexing: &Indexing) -> Result<bool, OutOfMemory> {
+    let arcs = arcs_of_both(alloc, indexing)?;
+    let made = VisitIndex::over_pieces(alloc, &arcs)?;
+    Ok(has_junctions(&made.index))
+}
+
 /// Tells the calls apart.
 #[derive(Clone, Copy)]
 enum Call {
     OfMap,
     OfPositions,
     OverArcs,
+    OverPieces,
 }
 
 const ROWS: &[Row<Call>] = &[
     ("VisitIndex::of", Call::OfMap),
     ("VisitIndex::from_junctions", Call::OfPositions),
     ("VisitIndex::over_arcs", Call::OverArcs),
+    ("VisitIndex::over_pieces", Call::OverPieces),
 ];
 
 impl Lends for Indexing {
@@ -98,6 +115,7 @@ impl Lends for Indexing {
             Call::OfMap => of_map(alloc, self),
             Call::OfPositions => of_positions(alloc),
             Call::OverArcs => over_arcs(alloc, self),
+            Call::OverPieces => over_pieces(alloc, self),
         }
     }
 }

@@ -1,6 +1,6 @@
 //! Lists of arcs that are cut again.
 
-use chains::ArcRef;
+use chains::{ArcRef, ArcTable};
 use faults::OutOfMemory;
 use refused_calls::calls::Lent;
 use refused_calls::comparing::{are_used, same_arcs};
@@ -8,7 +8,7 @@ use refused_calls::inputs::{built, is_of};
 use refused_calls::outcome::Tally;
 use refused_calls::tables::{Lends, Row, both};
 use refused_calls::texts::{SHARED_EDGE, THIRD, THREE};
-use split_arcs::{Recut, Side, recut, recut_owned};
+use split_arcs::{Recut, Side, recut, recut_all, recut_owned};
 use std::alloc::Global;
 use topo::Topology;
 
@@ -55,18 +55,49 @@ fn ring(alloc: Global, lists: &Lists) -> Result<bool, OutOfMemory> {
     Ok(are_used(made.as_slice(), &[5, -5]))
 }
 
+/// The tables of two squares and of a third.
+fn tables(alloc: Global, lists: &Lists) -> Result<Vec<ArcTable>, OutOfMemory> {
+    let mut tables = Vec::with_capacity(alloc, 2)?;
+    tables.push(lists.two.arcs().share(alloc)?)?;
+    tables.push(lists.third.arcs().share(alloc)?)?;
+    Ok(tables)
+}
+
+fn all(alloc: Global, lists: &Lists) -> Result<bool, OutOfMemory> {
+    let made = recut_all(alloc, tables(alloc, lists)?)?;
+    Ok(same_arcs(made.arcs(), lists.three.arcs()))
+}
+
+fn line_of_all(alloc: Global, lists: &Lists) -> Result<bool, OutOfMemory> {
+    let recut = recut_all(alloc, tables(alloc, lists)?)?;
+    let made = recut.line(alloc, 0, &[ArcRef::from_index(2)])?;
+    Ok(are_used(made.as_slice(), &[2, 4, -4]))
+}
+
+fn ring_of_all(alloc: Global, lists: &Lists) -> Result<bool, OutOfMemory> {
+    let recut = recut_all(alloc, tables(alloc, lists)?)?;
+    let made = recut.ring(alloc, 1, &[ArcRef::from_index(-1)])?;
+    Ok(are_used(made.as_slice(), &[5, -5]))
+}
+
 /// Tells the calls apart.
 #[derive(Clone, Copy)]
 enum Call {
     Owned,
     Line,
     Ring,
+    All,
+    LineOfAll,
+    RingOfAll,
 }
 
 const ROWS: &[Row<Call>] = &[
     ("split_arcs::recut_owned", Call::Owned),
     ("Recut::line", Call::Line),
     ("Recut::ring", Call::Ring),
+    ("split_arcs::recut_all", Call::All),
+    ("RecutAll::line", Call::LineOfAll),
+    ("RecutAll::ring", Call::RingOfAll),
 ];
 
 impl Lends for Lists {
@@ -89,6 +120,9 @@ impl Lends for Lists {
             Call::Owned => owned(alloc, self),
             Call::Line => line(alloc, self),
             Call::Ring => ring(alloc, self),
+            Call::All => all(alloc, self),
+            Call::LineOfAll => line_of_all(alloc, self),
+            Call::RingOfAll => ring_of_all(alloc, self),
         }
     }
 }
