@@ -14,11 +14,11 @@ ghost use Rattle.topo_io.specs.Means.{Means};
 ghost use Rattle.topo_io.specs.Roots.{faults_of_text};
 
 use crate::fault::JoinFault;
-use crate::joining::join_all;
 use faults::{Fault, FaultKind, OutOfMemory};
 use grid::transform::Grid;
 use shapes::feature_map::FeatureMap;
 use std::alloc::Global;
+use std::collections::VecDeque;
 
 /// Whether two grids have the same numbers.
 pub fn same_grid(these: &Grid, those: &Grid) -> bool
@@ -92,7 +92,8 @@ pub trait Shard: Sized + Drop {
         self.join(alloc, &other)
     }
 
-    /// The join of all of some shards, each once.
+    /// The join of all of some shards, each once. Where nothing else is written, the first two are joined and
+    /// put last, until one is left.
     ///
     /// # Errors
     /// `OtherGrid` only where grids differ; `OutOfMemory`.
@@ -102,7 +103,14 @@ pub trait Shard: Sized + Drop {
         ensures grid { (g : Transform) → All (λ s. grid_of s ≡ g) shards.items → IfOk result (λ s. grid_of s ≡ g) }
         ensures memory { (g : Transform) → All (λ s. grid_of s ≡ g) shards.items → IsOkUnless result OutOfMemory }
     {
-        join_all(alloc, shards)
+        let mut left = VecDeque::from(shards);
+        'pairs: while let Some(first) = left.pop_front() {
+            let Some(second) = left.pop_front() else {
+                return Ok(first);
+            };
+            left.push_back(first.join_owned(alloc, second)?)?;
+        }
+        unreachable!()
     }
 
     /// The canonical text of the shard's topology. Where the map fits the grid, it is read back as both.

@@ -136,7 +136,7 @@ tables_of_all ms ts lists h = record {
 module _ (u : Layers) (r : RecutAllParts) where
   recut_layers : (n : ℕ) (ms : List Layers) (ts : List Arcs) (lists : List (List LayerParts)) → ((m : Layers) → Has m ms → IsPartOf (geometry_of m) (geometry_of u)) →
       ((i : ℕ) (m : Geometry Pos) (t : Arcs) → slice_get (map_list geometry_of ms) i ≡ Some m → slice_get ts i ≡ Some t →
-          IsRefinementOf position_cmp m (geometry_of u) t.arcs r.arcs.arcs (of_table (n + i) r)) →
+      IsRefinementOf position_cmp m (geometry_of u) t.arcs r.arcs.arcs (of_table (n + i) r)) →
       ArePartsOfAll ms ts lists → Pairwise (AreLayersOf u r.arcs.arcs) ms (layers_recut_from r n lists)
   recut_layers n [] [] [] part ref h = tt
   recut_layers n [] [] (l ∷ ls) part ref h = absurd h

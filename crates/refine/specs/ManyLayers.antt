@@ -1,6 +1,7 @@
 -- The parts of many topologies, and their layers by the arcs of one table.
-use Rattle.std.specs.Prelude.{ℕ, ◌+◌, List, [], ◌∷◌, map as map_list, Vec}
+use Rattle.std.specs.Prelude.{ℕ, ◌+◌, Bool, true, ◌&&◌, List, [], ◌∷◌, map as map_list, Vec}
 use Rattle.std.specs.declared.alloc.Global.{Global}
+use Rattle.grid.specs.Place.{Transform}
 use Rattle.grid.specs.declared.pos.Pos.{Pos}
 use Rattle.lines.specs.Turned.{position_cmp}
 use Rattle.shapes.specs.Maps.{Layers}
@@ -9,6 +10,8 @@ use Rattle.chains.specs.Seen.{geometry_of, seen}
 use Rattle.theory.specs.Geometry.{JunctionOf}
 use Rattle.theory.specs.Lists.{Pairwise}
 use Rattle.theory.specs.Topology.{IsLayerOf}
+use Rattle.merging.specs.Meaning.{same_grid}
+use Rattle.refine.specs.OnGrid.{MapOnGrid}
 use Rattle.renumbering.specs.LayerLaws.CutLayers.{layer_recut}
 use Rattle.split_arcs.specs.PartsOfAll.{RecutAllParts, of_table}
 use Rattle.topo.specs.OfMap.{ArePartsOf, layer_of}
@@ -35,3 +38,12 @@ layers_recut_from r n (l ∷ ls) = map_list (layer_recut r.arcs.arcs (of_table n
 -- the layers are those of the map, by the arcs of a table that has the junctions of u
 abbrev pub AreLayersOf : Layers → List (List Pos) → Layers → List LayerParts → Type 0
 AreLayersOf u table m ls = Pairwise (IsLayerOf position_cmp (JunctionOf (geometry_of u)) table) (seen m) (map_list layer_of ls)
+
+-- the map of each shard
+abbrev pub maps_of : List MapOnGrid → List Layers
+maps_of shards = map_list (λ s. s.map) shards
+
+-- whether all shards are on the grid
+abbrev pub are_on : Transform → List MapOnGrid → Bool
+are_on g [] = true
+are_on g (s ∷ ss) = same_grid s.grid g && are_on g ss

@@ -1,7 +1,16 @@
 //! The join of many topologies at once: the arcs of all are cut again, each one's geometries follow the
 //! pieces once, and the sorted layers are merged two by two.
+ghost use Rattle.grid.specs.Place.{Transform};
+ghost use Rattle.merging.specs.Plans.{union_all};
+ghost use Rattle.merging.specs.declared.fault.JoinFault.TheVariants.{OutOfMemory};
+ghost use Rattle.refine.specs.ManyLayers.{ArePartsOfAll, AreLayersOf, are_on, layers_in, layers_recut_from, maps_of};
+ghost use Rattle.renumbering.specs.GeometryOrder.Noded.{AreNoded};
 ghost use Rattle.renumbering.specs.LayerLaws.Cuts as cuts;
+ghost use Rattle.shapes.specs.Maps.{Layers};
 ghost use Rattle.split_arcs.specs.PartsOfAll.{of_table};
+ghost use Rattle.std.specs.Prelude.{◌≡◌, ◌<◌, ◌^◌, All, IfOk, IsOkUnless, List, length};
+ghost use Rattle.theory.specs.Lists.{Pairwise};
+ghost use Rattle.topo.specs.OfMap.{IsOf};
 
 use crate::cut::{Cut, layers_of_both};
 use crate::fault::JoinFault;
@@ -9,6 +18,7 @@ use chains::table::{ArcRef, ArcTable};
 use faults::OutOfMemory;
 use grid::transform::Grid;
 use merging::join_all;
+use merging::shard::same_grid;
 use renumbering::{NewLists, layers_rewritten};
 use split_arcs::{RecutAll, recut_all};
 use std::alloc::Global;
@@ -44,6 +54,7 @@ fn parts_of_all(
     alloc: Global,
     shards: Vec<Cut>,
 ) -> Result<(Vec<ArcTable>, Vec<Vec<Layer>>), OutOfMemory>
+    ensures { IfOk result (λ p. ArePartsOfAll (maps_of shards.items) p.0.items (layers_in p.1.items)) }
 {
     let mut tables = Vec::with_capacity(alloc, shards.len())?;
     let mut lists = Vec::with_capacity(alloc, shards.len())?;
@@ -61,6 +72,7 @@ fn layers_by_new_arcs(
     recut: &RecutAll,
     lists: Vec<Vec<Layer>>,
 ) -> Result<VecDeque<Vec<Layer>>, OutOfMemory>
+    ensures { IfOk result (λ v. layers_in v.items ≡ layers_recut_from recut.now 0 (layers_in lists.items)) }
 {
     let mut rewritten = VecDeque::with_capacity(alloc, lists.len())?;
     let mut table = 0;
@@ -77,6 +89,9 @@ fn layers_of_all(
     arcs: &ArcTable,
     lists: VecDeque<Vec<Layer>>,
 ) -> Result<Vec<Layer>, OutOfMemory>
+    requires noded { AreNoded arcs.now.arcs }
+    requires maps { (u : Layers) × (maps : List Layers) × Pairwise (AreLayersOf u arcs.now.arcs) maps (layers_in lists.items) }
+    ensures { IfOk result (λ v. (u : Layers) (maps : List Layers) → Pairwise (AreLayersOf u arcs.now.arcs) maps (layers_in lists.items) → AreLayersOf u arcs.now.arcs (union_all maps) v.items) }
 {
     let mut left = lists;
     'rounds: while let Some(first) = left.pop_front() {
@@ -90,6 +105,9 @@ fn layers_of_all(
 
 /// The topology of the features of all shards on a grid.
 fn unite_all(alloc: Global, grid: Grid, shards: Vec<Cut>) -> Result<Topology, OutOfMemory>
+    ensures grid { IfOk result (λ t. t.grid ≡ grid) }
+    ensures of_map { IfOk result (IsOf (union_all (maps_of shards.items))) }
+    ensures few { IfOk result (λ t. length t.arcs.arcs < 2 ^ 63) }
 {
     let (tables, lists) = parts_of_all(alloc, shards)?;
     let cut = recut_all(alloc, tables)?;
@@ -101,28 +119,43 @@ fn unite_all(alloc: Global, grid: Grid, shards: Vec<Cut>) -> Result<Topology, Ou
 
 /// Whether all shards are on a grid.
 fn are_on_grid(shards: &[Cut], grid: &Grid) -> bool
+    ensures { result ≡ are_on grid.now shards.now }
 {
     for shard in shards {
-        if shard.topology().grid() != *grid {
+        if !same_grid(&shard.topology().grid(), grid) {
             return false;
         }
     }
     true
 }
 
-/// The shard of the features of all, each joined once: two at a time where they are few, else all at once.
-///
-/// # Errors
-/// `OtherGrid` only where the grids differ; `OutOfMemory`.
-pub(crate) fn join_shards_at_once(alloc: Global, shards: Vec<Cut>) -> Result<Cut, JoinFault>
+/// The shard of the features of all, whose arcs are cut again at once.
+fn join_at_once(alloc: Global, shards: Vec<Cut>) -> Result<Cut, JoinFault>
+    requires some { 0 < length shards.items }
+    ensures union { IfOk result (λ s. s.map ≡ union_all (maps_of shards.items)) }
+    ensures grid { (g : Transform) → All (λ s. s.grid ≡ g) shards.items → IfOk result (λ s. s.grid ≡ g) }
+    ensures memory { (g : Transform) → All (λ s. s.grid ≡ g) shards.items → IsOkUnless result OutOfMemory }
 {
-    if shards.len() <= MOST_IN_PAIRS {
-        return join_all(alloc, shards);
-    }
     let grid = shards[0].topology().grid();
     if !are_on_grid(&shards, &grid) {
         return Err(JoinFault::OtherGrid);
     }
     let topology = unite_all(alloc, grid, shards)?;
     Ok(Cut::of_topology(topology))
+}
+
+/// The shard of the features of all, each joined once: two at a time where they are few, else all at once.
+///
+/// # Errors
+/// `OtherGrid` only where the grids differ; `OutOfMemory`.
+pub(crate) fn join_many_shards(alloc: Global, shards: Vec<Cut>) -> Result<Cut, JoinFault>
+    requires some { 0 < length shards.items }
+    ensures union { IfOk result (λ s. s.map ≡ union_all (maps_of shards.items)) }
+    ensures grid { (g : Transform) → All (λ s. s.grid ≡ g) shards.items → IfOk result (λ s. s.grid ≡ g) }
+    ensures memory { (g : Transform) → All (λ s. s.grid ≡ g) shards.items → IsOkUnless result OutOfMemory }
+{
+    if shards.len() <= MOST_IN_PAIRS {
+        return join_all(alloc, shards);
+    }
+    join_at_once(alloc, shards)
 }

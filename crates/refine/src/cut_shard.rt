@@ -5,7 +5,7 @@ ghost use Rattle.std.specs.Prelude.{◌≡◌};
 
 pub use crate::cut::Cut;
 use crate::cut::{join_shards, join_shards_owned};
-use crate::cut_all::join_shards_at_once;
+use crate::cut_all::join_many_shards;
 use crate::fault::JoinFault;
 use faults::{Fault, OutOfMemory};
 use grid::transform::Grid;
@@ -53,7 +53,7 @@ impl Shard for Cut {
     }
 
     fn join_many(alloc: Global, shards: Vec<Cut>) -> Result<Cut, JoinFault> {
-        join_shards_at_once(alloc, shards)
+        join_many_shards(alloc, shards)
     }
 
     fn text(&self, alloc: Global) -> Result<Vec<u8>, OutOfMemory> {
