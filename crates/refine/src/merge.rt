@@ -15,7 +15,7 @@ use std::alloc::Global;
 use topo::Topology;
 
 /// The canonical text of the union of the features of the texts that the plan names. These are joined
-/// each once and by halves, whatever the plan's grouping, which makes no difference to the bytes.
+/// at once, whatever the plan's order and grouping, which make no difference to the bytes.
 ///
 /// # Errors
 /// `BadPlan` with the first leaf from the left that is no index of the list; otherwise `Text` with
