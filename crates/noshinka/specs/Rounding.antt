@@ -23,7 +23,7 @@ use Rattle.c_calls.specs.declared.refusal.CallRefusal.{CallRefusal}
 use Rattle.c_calls.specs.declared.refusal.CallRefusal.TheVariants.{BadGrid, BadName, BadChoice, OutOfMemory}
 use Rattle.noshinka.specs.declared.round_options.PropertyScale.{PropertyScale}
 use Rattle.noshinka.specs.declared.round_options.RoundOptions.{RoundOptions}
-use Rattle.noshinka.specs.declared.rules.Names.{Names}
+use Rattle.noshinka.specs.declared.rules.RuleNames.{RuleNames}
 use Rattle.noshinka.specs.declared.rules.Units.{Units}
 
 -- the step of the one numeral, so many units of the other, and the grid of that scale
@@ -35,7 +35,7 @@ pub record AreUnits (one other : List ℕ) (u : Units) : Type 0 where
   pub grid : u.grid ≡ of_units (pos u.units)
 
 -- the names of the options
-pub record AreNames (o : RoundOptions) (names : Names) : Type 0 where
+pub record AreNames (o : RoundOptions) (names : RuleNames) : Type 0 where
   pub id : option_map (λ n. n.now) names.id ≡ name_if (nat_eq o.ids 1) o.id.now
   pub layer : option_map (λ n. n.now) names.layer ≡ name_if (nat_eq o.scope 1) o.layer.now
   pub scales : map scale_pair names.scales.items ≡ map scale_of o.scales.now
