@@ -107,8 +107,8 @@ fn borrow_texts<T>(alloc: Global, texts: &[T]) -> Result<Vec<&T>, AllocError>
     texts.iter().collect(alloc)
 }
 
-// The shard of the union of the features of the texts whose marks are set, joined by halves along a
-// Z-order curve. Each text is dropped once it is read.
+// The shard of the union of the features of the texts whose marks are set, joined as their kind joins
+// many. Each text is dropped once it is read.
 fn merge_marked<S: Shard, T: AsSlice<u8> + Drop>(
     alloc: Global,
     texts: Vec<T>,
@@ -129,8 +129,7 @@ fn merge_marked<S: Shard, T: AsSlice<u8> + Drop>(
 }
 
 /// The shard of the union of the features of all texts, owned or borrowed; `None` exactly where there is no text. They
-/// are joined by halves, along a Z-order curve, whatever their order in the list, which makes no difference to what the
-/// shard means. Each text is dropped once it is read, so the memory of an owned one is free for what follows.
+/// are joined by `Shard::join_many`, and their order in the list makes no difference to what the shard means. Each text is dropped once it is read, so the memory of an owned one is free for what follows.
 ///
 /// # Errors
 /// `Text` with the first text of the list that is refused, and its first error; otherwise `OtherGrid` with the first
@@ -151,8 +150,8 @@ pub fn merge_all<S: Shard, T: AsSlice<u8> + Drop>(
 }
 
 /// The canonical text of the union of the features of the texts that the plan names, merged over shards of a chosen
-/// kind. Each is joined once, by halves and along a Z-order curve, whatever the plan's order and grouping, which
-/// make no difference to the text. The texts stay.
+/// kind. Each is joined once, by `Shard::join_many`, whatever the plan's order and grouping, which make no
+/// difference to the text. The texts stay.
 ///
 /// # Errors
 /// `BadPlan` with the first leaf from the left that is no index of the list; otherwise `Text` with

@@ -2,7 +2,8 @@
 ghost use Rattle.grid.specs.Place.{Transform};
 ghost use Rattle.merging.specs.Meaning as meaning;
 ghost use Rattle.merging.specs.Meaning.{Commutes, Associates, IsIdempotent};
-ghost use Rattle.merging.specs.declared.fault.JoinFault.TheVariants.{OtherGrid, OutOfMemory};
+ghost use Rattle.merging.specs.declared.fault.JoinFault.TheVariants as join_fault;
+ghost use Rattle.merging.specs.declared.fault.JoinFault.TheVariants.{OtherGrid};
 ghost use Rattle.merging.specs.Plans.{union_all};
 ghost use Rattle.reading.specs.Fault.{LeastOrWant};
 ghost use Rattle.shapes.specs.Fitting.{MapFits};
@@ -101,7 +102,7 @@ pub trait Shard: Sized + Drop {
         requires some { 0 < length shards.items }
         ensures union { IfOk result (λ s. map_of s ≡ union_all (map map_of shards.items)) }
         ensures grid { (g : Transform) → All (λ s. grid_of s ≡ g) shards.items → IfOk result (λ s. grid_of s ≡ g) }
-        ensures memory { (g : Transform) → All (λ s. grid_of s ≡ g) shards.items → IsOkUnless result OutOfMemory }
+        ensures memory { (g : Transform) → All (λ s. grid_of s ≡ g) shards.items → IsOkUnless result join_fault.OutOfMemory }
     {
         let mut left = VecDeque::from(shards);
         'pairs: while let Some(first) = left.pop_front() {

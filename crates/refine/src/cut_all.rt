@@ -2,7 +2,7 @@
 //! pieces once, and the sorted layers are merged two by two.
 ghost use Rattle.grid.specs.Place.{Transform};
 ghost use Rattle.merging.specs.Plans.{union_all};
-ghost use Rattle.merging.specs.declared.fault.JoinFault.TheVariants.{OutOfMemory};
+ghost use Rattle.merging.specs.declared.fault.JoinFault.TheVariants as join_fault;
 ghost use Rattle.refine.specs.ManyLayers.{ArePartsOfAll, AreLayersOf, are_on, layers_in, layers_recut_from, maps_of};
 ghost use Rattle.renumbering.specs.GeometryOrder.Noded.{AreNoded};
 ghost use Rattle.renumbering.specs.LayerLaws.Cuts as cuts;
@@ -134,7 +134,7 @@ fn join_at_once(alloc: Global, shards: Vec<Cut>) -> Result<Cut, JoinFault>
     requires some { 0 < length shards.items }
     ensures union { IfOk result (λ s. s.map ≡ union_all (maps_of shards.items)) }
     ensures grid { (g : Transform) → All (λ s. s.grid ≡ g) shards.items → IfOk result (λ s. s.grid ≡ g) }
-    ensures memory { (g : Transform) → All (λ s. s.grid ≡ g) shards.items → IsOkUnless result OutOfMemory }
+    ensures memory { (g : Transform) → All (λ s. s.grid ≡ g) shards.items → IsOkUnless result join_fault.OutOfMemory }
 {
     let grid = shards[0].topology().grid();
     if !are_on_grid(&shards, &grid) {
@@ -152,7 +152,7 @@ pub(crate) fn join_many_shards(alloc: Global, shards: Vec<Cut>) -> Result<Cut, J
     requires some { 0 < length shards.items }
     ensures union { IfOk result (λ s. s.map ≡ union_all (maps_of shards.items)) }
     ensures grid { (g : Transform) → All (λ s. s.grid ≡ g) shards.items → IfOk result (λ s. s.grid ≡ g) }
-    ensures memory { (g : Transform) → All (λ s. s.grid ≡ g) shards.items → IsOkUnless result OutOfMemory }
+    ensures memory { (g : Transform) → All (λ s. s.grid ≡ g) shards.items → IsOkUnless result join_fault.OutOfMemory }
 {
     if shards.len() <= MOST_IN_PAIRS {
         return join_all(alloc, shards);
