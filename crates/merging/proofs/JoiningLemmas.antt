@@ -9,7 +9,7 @@ use Rattle.lines.proofs.SortedLists.{Has-permutation}
 use Rattle.grid.specs.Place.{Transform}
 use Rattle.shapes.specs.Maps.{Layers}
 use Rattle.shapes.specs.Union.{union}
-use Rattle.merging.specs.Laws.{union_associates, union_commutes, union_empty}
+use Rattle.merging.specs.Laws.{union_associates, union_empty}
 use Rattle.merging.specs.Plans.{union_all}
 use Rattle.merging.proofs.AlikeLemmas.{same_union}
 use Rattle.merging.proofs.PlanLemmas.{union_all-append}
@@ -79,32 +79,3 @@ module _ {S : Type 0} (grid : S → Transform) (map_of : S → Layers) where
   pub one_union : (s : S) (made before : List S) → made ≡ before ++ (s ∷ []) → length made ≤ 1 → map_of s ≡ union_all (map_list map_of made)
   one_union s made [] e le = sym (ap (λ w. union_all (map_list map_of w)) e ∙ union_empty (map_of s))
   one_union s made (b ∷ bs) e le = absurd (omega (arith, ap length e, length-append bs (s ∷ [])))
-
-  -- the first two of a list joined and put last
-  pub queue_union : (left rest more : List S) (a b s : S) → left ≡ a ∷ (b ∷ rest) → map_of s ≡ union (map_of a) (map_of b) → more ≡ rest ++ (s ∷ []) →
-      union_all (map_list map_of more) ≡ union_all (map_list map_of left)
-  queue_union left rest more a b s e is m =
-      let whole : List S → Layers = λ xs. union_all (map_list map_of xs) in
-      ap whole m
-      ∙ union_of-append rest (s ∷ [])
-      ∙ ap (union (whole rest)) (union_empty (map_of s) ∙ is)
-      ∙ union_commutes (whole rest) (union (map_of a) (map_of b))
-      ∙ union_associates (map_of a) (map_of b) (whole rest)
-      ∙ sym (ap whole e)
-
-  pub queue_on : (left rest more : List S) (a b s : S) (g : Transform) → left ≡ a ∷ (b ∷ rest) → grid s ≡ grid a → more ≡ rest ++ (s ∷ []) → All (λ s. grid s ≡ g) left → All (λ s. grid s ≡ g) more
-  queue_on left rest more a b s g e same m h =
-      let P : S → Type 0 = λ s. grid s ≡ g in
-      let two : All P (a ∷ (b ∷ rest)) = subst (All P) e h in
-      subst (All P) (sym m) (All-push P rest s (All-tail P b rest (All-tail P a (b ∷ rest) two)) (same ∙ All-head P a (b ∷ rest) two))
-
-  pub first_two_on : (left rest : List S) (a b : S) (g : Transform) → left ≡ a ∷ (b ∷ rest) → All (λ s. grid s ≡ g) left → grid a ≡ grid b
-  first_two_on left rest a b g e h =
-      let P : S → Type 0 = λ s. grid s ≡ g in
-      let two : All P (a ∷ (b ∷ rest)) = subst (All P) e h in
-      All-head P a (b ∷ rest) two ∙ sym (All-head P b rest (All-tail P a (b ∷ rest) two))
-
-  -- one that is left alone
-  pub alone_union : (left rest : List S) (a : S) → left ≡ a ∷ rest → length rest ≡ 0 → map_of a ≡ union_all (map_list map_of left)
-  alone_union left (b ∷ bs) a e n = absurd (omega (arith, n))
-  alone_union left [] a e n = sym (ap (λ w. union_all (map_list map_of w)) e ∙ union_empty (map_of a))

@@ -1,8 +1,11 @@
 -- The parts of many topologies: their layers by the arcs of one table, merged two by two, are the parts of the union's topology.
-use Rattle.std.proofs.Common.{◌≡◌, ℕ, zero, suc, ◌+◌, true, ◌&&◌, List, [], ◌∷◌, ◌++◌, append-nil, append_assoc, inl, inr, Some, slice_get, refl, sym, ap, ◌∙◌, subst, arith}
+use Rattle.std.proofs.Common.{◌≡◌, ◌≤◌, ℕ, zero, suc, ◌+◌, true, ◌&&◌, List, [], ◌∷◌, ◌++◌, append-nil, append_assoc, length, inl, inr, Some, slice_get, refl, sym, ap, ◌∙◌, subst, arith}
 use Rattle.std.specs.Prelude.{map as map_list, All}
-use Rattle.std.proofs.lemmas.List.Elements.{All-head, All-tail}
+use Rattle.std.proofs.lemmas.List.{length-append}
+use Rattle.std.proofs.lemmas.List.Elements.{All-head, All-pop, All-tail}
 use Rattle.std.specs.FinMap as map
+use Rattle.std.specs.Cmp.Lexicographic.{slice_cmp}
+use Rattle.std.specs.Ordering.{nat_cmp}
 use Rattle.grid.specs.Place.{Transform}
 use Rattle.grid.specs.declared.pos.Pos.{Pos}
 use Rattle.lines.specs.Turned.{position_cmp}
@@ -16,9 +19,9 @@ use Rattle.chains.specs.Seen as seen_by
 use Rattle.chains.specs.Seen.{geometry_of, seen}
 use Rattle.chains.specs.Table.{IsTableOf}
 use Rattle.theory.specs.Geometry.{Geometry, IsSound, JunctionOf}
-use Rattle.theory.specs.Lists.{Has, Pairwise}
+use Rattle.theory.specs.Lists.{Has, Pairwise, gathered}
 use Rattle.theory.specs.Refinement.{IsPartOf, IsRefinementOf}
-use Rattle.theory.specs.Topology.{IsGeometryOf, IsLayerOf}
+use Rattle.theory.specs.Topology.{IsGeometryOf, IsLayerOf, forms_of, lines_in, rings_in}
 use Rattle.theory.proofs.Lists.{Has-append}
 use Rattle.theory.proofs.ListsOfLists.{Has-map, map_has}
 use Rattle.merging.specs.Laws.{union_associates, union_commutes, union_empty}
@@ -40,7 +43,7 @@ use Rattle.topo.specs.OfMap.{ArePartsOf, IsOf, item_of, layer_of}
 use Rattle.topo.specs.Parts.{LayerParts, TopologyParts}
 use Rattle.topo.specs.declared.geom.Geom.{Geom}
 use Rattle.topo.proofs.Sound.{are_sound}
-use Rattle.refine.specs.ManyLayers.{AreLayersOf, ArePartsOfAll, are_on, layers_recut_from}
+use Rattle.refine.specs.ManyLayers.{AreLayersOf, ArePartsOfAll, are_on, layers_recut_from, maps_of}
 use Rattle.refine.specs.OnGrid.{MapOnGrid}
 
 -- what stands side by side in mapped lists
@@ -100,9 +103,20 @@ pub parts_more : (m : Layers) (t : Arcs) (ls : List LayerParts) (ms : List Layer
     ArePartsOfAll (m ∷ ms) (t ∷ ts) (ls ∷ lists)
 parts_more m t ls ms ts lists h k = (h, k)
 
+pub no_items : {A : Type 0} (l : List A) → length l ≡ 0 → l ≡ []
+no_items [] h = refl
+no_items (x ∷ l) h = absurd (omega (arith, h))
+
+empty_entries : map.entries (union_all []) ≡ []
+empty_entries = no_items (map.entries (union_all [])) (sym (map.len-entries map.empty) ∙ map.len-empty (slice_cmp nat_cmp) Features)
+
 -- the geometries of maps, united
 pub all_unite : (ms : List Layers) → IsUnionOfAll (map_list geometry_of ms) (geometry_of (union_all ms))
-all_unite [] = record { parts = λ m h. absurd h; lines = λ l h. absurd h; rings = λ r h. absurd h }
+all_unite [] = record {
+  parts = λ m h. absurd h;
+  lines = λ l h. absurd (subst (λ es. Has l (gathered lines_in (forms_of (map_list seen_by.layer_of es)))) empty_entries h);
+  rings = λ r h. absurd (subst (λ es. Has r (gathered rings_in (forms_of (map_list seen_by.layer_of es)))) empty_entries h);
+}
 all_unite (m ∷ ms) =
     let more = all_unite ms in
     let both = geometries_unite m (union_all ms) in
@@ -241,7 +255,9 @@ module _ (u : Layers) (table : List (List Pos)) (ms : List Layers) where
   none_left left a e = go a.maps (subst (Pairwise (AreLayersOf u table) a.maps) e a.each) a.same
     where
       go : (ns : List Layers) → Pairwise (AreLayersOf u table) ns [] → union_all ns ≡ union_all ms → AreLayersOf u table (union_all ms) []
-      go [] p s = subst (λ w. AreLayersOf u table w []) s tt
+      go [] p s =
+          subst (λ w. AreLayersOf u table w []) s
+          (subst (λ es. Pairwise (IsLayerOf position_cmp (JunctionOf (geometry_of u)) table) (map_list seen_by.layer_of es) []) (sym empty_entries) tt)
       go (n ∷ ns) p s = absurd p
 
 -- a topology's arcs and layers, as they are handed over
@@ -271,3 +287,22 @@ pub all_on_grid : (g h : Transform) (ss : List MapOnGrid) → All (λ s. s.grid 
 all_on_grid g h [] a e = refl
 all_on_grid g h (s ∷ ss) a e =
     (λ i. same_grid_same s.grid h (All-head (λ (w : MapOnGrid). w.grid ≡ g) s ss a ∙ e) i && are_on h ss) ∙ all_on_grid g h ss (All-tail (λ (w : MapOnGrid). w.grid ≡ g) s ss a) e
+
+-- one shard, or two, taken from the end
+pub two_united : (items rest more : List MapOnGrid) (a b : MapOnGrid) → items ≡ rest ++ (b ∷ []) → rest ≡ more ++ (a ∷ []) → length items ≤ 2 → union a.map b.map ≡ union_all (maps_of items)
+two_united items rest [] a b e f n = ap (union a.map) (sym (union_empty b.map)) ∙ sym (ap (λ w. union_all (maps_of w)) (e ∙ ap (λ w. w ++ (b ∷ [])) f))
+two_united items rest (x ∷ xs) a b e f n = absurd (omega (arith, n, ap length e, length-append rest (b ∷ []), ap length f, length-append xs (a ∷ [])))
+
+pub one_united : (items rest : List MapOnGrid) (b : MapOnGrid) → items ≡ rest ++ (b ∷ []) → length rest ≡ 0 → b.map ≡ union_all (maps_of items)
+one_united items [] b e n = sym (union_empty b.map) ∙ sym (ap (λ w. union_all (maps_of w)) e)
+one_united items (x ∷ xs) b e n = absurd (omega (arith, n))
+
+module _ (g : Transform) (items rest more : List MapOnGrid) (a b : MapOnGrid) where
+  abbrev On : MapOnGrid → Type 0
+  On s = s.grid ≡ g
+
+  pub last_on : items ≡ rest ++ (b ∷ []) → All On items → All On rest × (b.grid ≡ g)
+  last_on e all = All-pop On items rest (Some b) e all
+
+  pub first_on : items ≡ rest ++ (b ∷ []) → rest ≡ more ++ (a ∷ []) → All On items → a.grid ≡ g
+  first_on e f all = (All-pop On rest more (Some a) f (last_on e all).0).1

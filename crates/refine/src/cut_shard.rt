@@ -1,7 +1,10 @@
 //! A shard that keeps a topology.
+ghost use Rattle.grid.specs.Place.{Transform};
 ghost use Rattle.merging.specs.Laws.{union-Commutes, union-Associates, union-IsIdempotent};
+ghost use Rattle.merging.specs.Plans.{union_all};
+ghost use Rattle.merging.specs.declared.fault.JoinFault.TheVariants as join_fault;
 ghost use Rattle.shapes.specs.Union.{union};
-ghost use Rattle.std.specs.Prelude.{◌≡◌};
+ghost use Rattle.std.specs.Prelude.{◌≡◌, ◌<◌, All, IfOk, IsOkUnless, length, map as map_list};
 
 pub use crate::cut::Cut;
 use crate::cut::{join_shards, join_shards_owned};
@@ -52,7 +55,12 @@ impl Shard for Cut {
         join_shards_owned(alloc, self, other)
     }
 
-    fn join_many(alloc: Global, shards: Vec<Cut>) -> Result<Cut, JoinFault> {
+    fn join_many(alloc: Global, shards: Vec<Cut>) -> Result<Cut, JoinFault>
+        requires some { 0 < length shards.items }
+        ensures union { IfOk result (λ s. s.map ≡ union_all (map_list (λ s. s.map) shards.items)) }
+        ensures grid { (g : Transform) → All (λ s. s.grid ≡ g) shards.items → IfOk result (λ s. s.grid ≡ g) }
+        ensures memory { (g : Transform) → All (λ s. s.grid ≡ g) shards.items → IsOkUnless result join_fault.OutOfMemory }
+    {
         join_many_shards(alloc, shards)
     }
 

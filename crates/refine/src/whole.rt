@@ -59,10 +59,6 @@ impl Shard for Whole {
         })
     }
 
-    fn join_many(alloc: Global, shards: Vec<Whole>) -> Result<Whole, JoinFault> {
-        join_all(alloc, shards)
-    }
-
     fn text(&self, alloc: Global) -> Result<Vec<u8>, OutOfMemory> {
         let topology = Topology::build(alloc, &self.grid, &self.map)?;
         topo_io::text_of(alloc, &topology)
