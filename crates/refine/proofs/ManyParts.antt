@@ -1,8 +1,7 @@
 -- The parts of many topologies: their layers by the arcs of one table, merged two by two, are the parts of the union's topology.
-use Rattle.std.proofs.Common.{◌≡◌, ◌≤◌, ℕ, zero, suc, ◌+◌, true, ◌&&◌, List, [], ◌∷◌, ◌++◌, append-nil, append_assoc, length, inl, inr, Some, slice_get, refl, sym, ap, ◌∙◌, subst, arith}
+use Rattle.std.proofs.Common.{◌≡◌, ℕ, zero, suc, ◌+◌, true, ◌&&◌, List, [], ◌∷◌, ◌++◌, append-nil, append_assoc, length, inl, inr, Some, slice_get, refl, sym, ap, ◌∙◌, subst, arith}
 use Rattle.std.specs.Prelude.{map as map_list, All}
-use Rattle.std.proofs.lemmas.List.{length-append}
-use Rattle.std.proofs.lemmas.List.Elements.{All-head, All-pop, All-tail}
+use Rattle.std.proofs.lemmas.List.Elements.{All-head, All-tail}
 use Rattle.std.specs.FinMap as map
 use Rattle.std.specs.Cmp.Lexicographic.{slice_cmp}
 use Rattle.std.specs.Ordering.{nat_cmp}
@@ -287,22 +286,3 @@ pub all_on_grid : (g h : Transform) (ss : List MapOnGrid) → All (λ s. s.grid 
 all_on_grid g h [] a e = refl
 all_on_grid g h (s ∷ ss) a e =
     (λ i. same_grid_same s.grid h (All-head (λ (w : MapOnGrid). w.grid ≡ g) s ss a ∙ e) i && are_on h ss) ∙ all_on_grid g h ss (All-tail (λ (w : MapOnGrid). w.grid ≡ g) s ss a) e
-
--- one shard, or two, taken from the end
-pub two_united : (items rest more : List MapOnGrid) (a b : MapOnGrid) → items ≡ rest ++ (b ∷ []) → rest ≡ more ++ (a ∷ []) → length items ≤ 2 → union a.map b.map ≡ union_all (maps_of items)
-two_united items rest [] a b e f n = ap (union a.map) (sym (union_empty b.map)) ∙ sym (ap (λ w. union_all (maps_of w)) (e ∙ ap (λ w. w ++ (b ∷ [])) f))
-two_united items rest (x ∷ xs) a b e f n = absurd (omega (arith, n, ap length e, length-append rest (b ∷ []), ap length f, length-append xs (a ∷ [])))
-
-pub one_united : (items rest : List MapOnGrid) (b : MapOnGrid) → items ≡ rest ++ (b ∷ []) → length rest ≡ 0 → b.map ≡ union_all (maps_of items)
-one_united items [] b e n = sym (union_empty b.map) ∙ sym (ap (λ w. union_all (maps_of w)) e)
-one_united items (x ∷ xs) b e n = absurd (omega (arith, n))
-
-module _ (g : Transform) (items rest more : List MapOnGrid) (a b : MapOnGrid) where
-  abbrev On : MapOnGrid → Type 0
-  On s = s.grid ≡ g
-
-  pub last_on : items ≡ rest ++ (b ∷ []) → All On items → All On rest × (b.grid ≡ g)
-  last_on e all = All-pop On items rest (Some b) e all
-
-  pub first_on : items ≡ rest ++ (b ∷ []) → rest ≡ more ++ (a ∷ []) → All On items → a.grid ≡ g
-  first_on e f all = (All-pop On rest more (Some a) f (last_on e all).0).1

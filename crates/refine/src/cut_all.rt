@@ -8,21 +8,25 @@ ghost use Rattle.renumbering.specs.GeometryOrder.Noded.{AreNoded};
 ghost use Rattle.renumbering.specs.LayerLaws.Cuts as cuts;
 ghost use Rattle.shapes.specs.Maps.{Layers};
 ghost use Rattle.split_arcs.specs.PartsOfAll.{of_table};
-ghost use Rattle.std.specs.Prelude.{◌≡◌, ◌<◌, ◌≤◌, ◌^◌, All, IfOk, IsOkUnless, List, length};
+ghost use Rattle.std.specs.Prelude.{◌≡◌, ◌<◌, ◌^◌, All, IfOk, IsOkUnless, List, length};
 ghost use Rattle.theory.specs.Lists.{Pairwise};
 ghost use Rattle.topo.specs.OfMap.{IsOf};
 
-use crate::cut::{Cut, join_shards_owned, layers_of_both};
+use crate::cut::{Cut, layers_of_both};
 use crate::fault::JoinFault;
 use chains::table::{ArcRef, ArcTable};
 use faults::OutOfMemory;
 use grid::transform::Grid;
 use merging::shard::same_grid;
+use merging::{JoinMany, join_all};
 use renumbering::{NewLists, layers_rewritten};
 use split_arcs::{RecutAll, recut_all};
 use std::alloc::Global;
 use std::collections::VecDeque;
 use topo::{Layer, Topology};
+
+/// So many shards are joined two at a time: the boxes of two tables spare more than one index over both.
+const MOST_IN_PAIRS: usize = 2;
 
 /// The lists of a table by the new arcs.
 #[derive(Drop)]
@@ -140,38 +144,19 @@ fn join_at_once(alloc: Global, shards: Vec<Cut>) -> Result<Cut, JoinFault>
     Ok(Cut::of_topology(topology))
 }
 
-/// The shard of the features of one shard or of two.
-fn join_few(alloc: Global, shards: Vec<Cut>) -> Result<Cut, JoinFault>
-    requires some { 0 < length shards.items }
-    requires few { length shards.items ≤ 2 }
-    ensures union { IfOk result (λ s. s.map ≡ union_all (maps_of shards.items)) }
-    ensures grid { (g : Transform) → All (λ s. s.grid ≡ g) shards.items → IfOk result (λ s. s.grid ≡ g) }
-    ensures memory { (g : Transform) → All (λ s. s.grid ≡ g) shards.items → IsOkUnless result join_fault.OutOfMemory }
-{
-    let mut left = shards;
-    let Some(last) = left.pop() else {
-        unreachable!();
-    };
-    let Some(first) = left.pop() else {
-        return Ok(last);
-    };
-    let shard = join_shards_owned(alloc, first, last)?;
-    Ok(shard)
-}
+/// All at once: the arcs of all shards are cut again together. Two are joined two at a time.
+pub struct AtOnce;
 
-/// The shard of the features of all, each joined once. Two are joined as `join_owned` joins them: the
-/// boxes of two tables spare more than one index over both.
-///
-/// # Errors
-/// `OtherGrid` only where the grids differ; `OutOfMemory`.
-pub(crate) fn join_many_shards(alloc: Global, shards: Vec<Cut>) -> Result<Cut, JoinFault>
-    requires some { 0 < length shards.items }
-    ensures union { IfOk result (λ s. s.map ≡ union_all (maps_of shards.items)) }
-    ensures grid { (g : Transform) → All (λ s. s.grid ≡ g) shards.items → IfOk result (λ s. s.grid ≡ g) }
-    ensures memory { (g : Transform) → All (λ s. s.grid ≡ g) shards.items → IsOkUnless result join_fault.OutOfMemory }
-{
-    if shards.len() > 2 {
-        return join_at_once(alloc, shards);
+impl JoinMany<Cut> for AtOnce {
+    fn join_many(alloc: Global, shards: Vec<Cut>) -> Result<Cut, JoinFault>
+        requires some { 0 < length shards.items }
+        ensures union { IfOk result (λ s. s.map ≡ union_all (maps_of shards.items)) }
+        ensures grid { (g : Transform) → All (λ s. s.grid ≡ g) shards.items → IfOk result (λ s. s.grid ≡ g) }
+        ensures memory { (g : Transform) → All (λ s. s.grid ≡ g) shards.items → IsOkUnless result join_fault.OutOfMemory }
+    {
+        if shards.len() <= MOST_IN_PAIRS {
+            return join_all(alloc, shards);
+        }
+        join_at_once(alloc, shards)
     }
-    join_few(alloc, shards)
 }

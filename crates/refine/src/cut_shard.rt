@@ -1,14 +1,10 @@
 //! A shard that keeps a topology.
-ghost use Rattle.grid.specs.Place.{Transform};
 ghost use Rattle.merging.specs.Laws.{union-Commutes, union-Associates, union-IsIdempotent};
-ghost use Rattle.merging.specs.Plans.{union_all};
-ghost use Rattle.merging.specs.declared.fault.JoinFault.TheVariants as join_fault;
 ghost use Rattle.shapes.specs.Union.{union};
-ghost use Rattle.std.specs.Prelude.{◌≡◌, ◌<◌, All, IfOk, IsOkUnless, length, map as map_list};
+ghost use Rattle.std.specs.Prelude.{◌≡◌};
 
 pub use crate::cut::Cut;
 use crate::cut::{join_shards, join_shards_owned};
-use crate::cut_all::join_many_shards;
 use crate::fault::JoinFault;
 use faults::{Fault, OutOfMemory};
 use grid::transform::Grid;
@@ -53,15 +49,6 @@ impl Shard for Cut {
 
     fn join_owned(self, alloc: Global, other: Cut) -> Result<Cut, JoinFault> {
         join_shards_owned(alloc, self, other)
-    }
-
-    fn join_many(alloc: Global, shards: Vec<Cut>) -> Result<Cut, JoinFault>
-        requires some { 0 < length shards.items }
-        ensures union { IfOk result (λ s. s.map ≡ union_all (map_list (λ s. s.map) shards.items)) }
-        ensures grid { (g : Transform) → All (λ s. s.grid ≡ g) shards.items → IfOk result (λ s. s.grid ≡ g) }
-        ensures memory { (g : Transform) → All (λ s. s.grid ≡ g) shards.items → IsOkUnless result join_fault.OutOfMemory }
-    {
-        join_many_shards(alloc, shards)
     }
 
     fn text(&self, alloc: Global) -> Result<Vec<u8>, OutOfMemory> {

@@ -1,7 +1,7 @@
-use Rattle.std.proofs.Common.{◌∙◌, ◌∷◌, [], ap}
+use Rattle.std.proofs.Common.{◌∙◌, ◌∷◌, [], ap, arith}
 use Rattle.std.proofs.lemmas.List.{map-append}
 use Rattle.refine.specs.ManyLayers.{layers_in, maps_of}
-use Rattle.refine.proofs.ManyParts.{parts_done, parts_over, parts_step}
+use Rattle.refine.proofs.ManyParts.{no_items, parts_done, parts_over, parts_step}
 use Rattle.refine.proofs.cut_all.parts_of_all.Goals as goal
 
 pub loop-shard-preserved : goal.loop-shard-preserved
@@ -15,4 +15,4 @@ loop-shard-preserved c =
 pub returns : goal.returns
 returns c =
     parts_done (maps_of c.args.shards.items) (maps_of c.loop-shard.shard-iterator.rest.items) c.loop-shard.tables.items (layers_in c.loop-shard.lists.items)
-    c.loop-shard.invariant (ap maps_of c.in-None.ensures.steps.0)
+    c.loop-shard.invariant (ap maps_of (no_items c.loop-shard.shard-iterator.rest.items (omega (arith, c.in-None.ensures.steps.0, c.loop-shard.shard-iterator.rest.ok.0))))
