@@ -3,6 +3,7 @@
 #![tactic(auto)]
 
 pub mod fault;
+pub mod join_many;
 pub mod joining;
 pub mod laws;
 pub mod merge;
@@ -11,7 +12,8 @@ pub mod shard;
 mod z_order;
 
 pub use fault::{JoinFault, MergeFault, PlanFault};
+pub use join_many::{ByHalves, JoinMany};
 pub use joining::join_all;
-pub use merge::{merge_all, merge_as};
+pub use merge::{merge_all, merge_all_by, merge_as, merge_as_by};
 pub use plan::{Plan, first_bad_leaf, named_indexes, run_plan};
 pub use shard::Shard;

@@ -9,6 +9,7 @@ ghost use Rattle.std.specs.Prelude.{◌≡◌, ◌<◌, ℕ, List, IfOk, IfErr, 
 ghost use Rattle.topo_io.specs.Means.{Means};
 
 use crate::fault::MergeFault;
+use crate::join_many::{ByHalves, JoinMany};
 use crate::plan::{Plan, first_bad_leaf, named_indexes};
 use crate::shard::{Shard, same_grid};
 use faults::{Fault, FaultKind};
@@ -107,8 +108,9 @@ fn borrow_texts<T>(alloc: Global, texts: &[T]) -> Result<Vec<&T>, AllocError>
     texts.iter().collect(alloc)
 }
 
-// The shard of the union of the features of the texts whose marks are set. Each text is dropped once it is read.
-fn merge_marked<S: Shard, T: AsSlice<u8> + Drop>(
+// The shard of the union of the features of the texts whose marks are set, joined in a chosen way. Each
+// text is dropped once it is read.
+fn merge_marked<S: Shard, J: JoinMany<S>, T: AsSlice<u8> + Drop>(
     alloc: Global,
     texts: Vec<T>,
     marks: &[bool],
@@ -121,15 +123,37 @@ fn merge_marked<S: Shard, T: AsSlice<u8> + Drop>(
     if let Some(number) = first_other(&grids) {
         return Err(MergeFault::OtherGrid(number));
     }
-    match S::join_many(alloc, shards) {
+    match J::join_many(alloc, shards) {
         Ok(shard) => Ok(shard),
         Err(_) => Err(MergeFault::OutOfMemory),
     }
 }
 
+/// The shard of the union of the features of all texts, owned or borrowed, joined in a chosen way; `None` exactly where
+/// there is no text. Neither the way nor the texts' order in the list makes a difference to what the shard means. Each
+/// text is dropped once it is read, so the memory of an owned one is free for what follows.
+///
+/// # Errors
+/// `Text` with the first text of the list that is refused, and its first error; otherwise `OtherGrid` with the first
+/// text whose transform differs from that of text 0.
+pub fn merge_all_by<S: Shard, J: JoinMany<S>, T: AsSlice<u8> + Drop>(
+    alloc: Global,
+    texts: Vec<T>,
+) -> Result<Option<S>, MergeFault>
+    ensures fault { IfErr result (IsMergeFault (map T.items texts.items) (all_indexes texts.items)) }
+    ensures merged { IfOk result (λ o. MatchOption o (length texts.items ≡ 0) (λ s. IsUnionOf (map T.items texts.items) (all_indexes texts.items) (S.grid_of s) (S.map_of s))) }
+{
+    if texts.is_empty() {
+        return Ok(None);
+    }
+    let marks = vec![in alloc; true; texts.len()]?;
+    let shard = merge_marked::<S, J, T>(alloc, texts, &marks)?;
+    Ok(Some(shard))
+}
+
 /// The shard of the union of the features of all texts, owned or borrowed; `None` exactly where there is no text. They
-/// are joined by `Shard::join_many`, whatever their order in the list, which makes no difference to what the shard
-/// means. Each text is dropped once it is read, so the memory of an owned one is free for what follows.
+/// are joined by halves, along a Z-order curve, whatever their order in the list, which makes no difference to what the
+/// shard means. Each text is dropped once it is read, so the memory of an owned one is free for what follows.
 ///
 /// # Errors
 /// `Text` with the first text of the list that is refused, and its first error; otherwise `OtherGrid` with the first
@@ -141,17 +165,39 @@ pub fn merge_all<S: Shard, T: AsSlice<u8> + Drop>(
     ensures fault { IfErr result (IsMergeFault (map T.items texts.items) (all_indexes texts.items)) }
     ensures merged { IfOk result (λ o. MatchOption o (length texts.items ≡ 0) (λ s. IsUnionOf (map T.items texts.items) (all_indexes texts.items) (S.grid_of s) (S.map_of s))) }
 {
-    if texts.is_empty() {
-        return Ok(None);
-    }
-    let marks = vec![in alloc; true; texts.len()]?;
-    let shard = merge_marked(alloc, texts, &marks)?;
-    Ok(Some(shard))
+    merge_all_by::<S, ByHalves, T>(alloc, texts)
 }
 
 /// The canonical text of the union of the features of the texts that the plan names, merged over shards of a chosen
-/// kind. They are joined by `Shard::join_many`, each once, whatever the plan's order and grouping, which make no
+/// kind and joined in a chosen way. Each is joined once, whatever the plan's order and grouping, which make no
 /// difference to the text. The texts stay.
+///
+/// # Errors
+/// `BadPlan` with the first leaf from the left that is no index of the list; otherwise `Text` with
+/// the first text of the list that is refused, and its first error; otherwise `OtherGrid` with the
+/// first text whose transform differs from that of text 0. All texts are read, also those that the
+/// plan does not name.
+pub fn merge_as_by<S: Shard, J: JoinMany<S>>(
+    alloc: Global,
+    texts: &[Vec<u8>],
+    plan: &Plan,
+) -> Result<Vec<u8>, MergeFault>
+    ensures bad_plan { (k : ℕ) → first_outside (length texts.now) (leaves plan.now) ≡ Some k → result ≡ Err (BadPlan k) }
+    ensures fault { IfErr result (IsMergeFault (bytes_of texts.now) (leaves plan.now)) }
+    ensures merged { IfOk result (λ t. IsMergeOf (bytes_of texts.now) (leaves plan.now) t.items) }
+    ensures accepted { IfOk result (λ t. MeansUnion (bytes_of texts.now) (leaves plan.now) t.items) }
+{
+    if let Some(leaf) = first_bad_leaf(alloc, plan, texts.len()) {
+        return Err(MergeFault::BadPlan(leaf));
+    }
+    let marks = named_indexes(alloc, plan, texts.len())?;
+    let shard = merge_marked::<S, J, &Vec<u8>>(alloc, borrow_texts(alloc, texts)?, &marks)?;
+    Ok(shard.text(alloc)?)
+}
+
+/// The canonical text of the union of the features of the texts that the plan names, merged over shards of a chosen
+/// kind. Each is joined once, by halves and along a Z-order curve, whatever the plan's order and grouping, which
+/// make no difference to the text. The texts stay.
 ///
 /// # Errors
 /// `BadPlan` with the first leaf from the left that is no index of the list; otherwise `Text` with
@@ -168,10 +214,5 @@ pub fn merge_as<S: Shard>(
     ensures merged { IfOk result (λ t. IsMergeOf (bytes_of texts.now) (leaves plan.now) t.items) }
     ensures accepted { IfOk result (λ t. MeansUnion (bytes_of texts.now) (leaves plan.now) t.items) }
 {
-    if let Some(leaf) = first_bad_leaf(alloc, plan, texts.len()) {
-        return Err(MergeFault::BadPlan(leaf));
-    }
-    let marks = named_indexes(alloc, plan, texts.len())?;
-    let shard: S = merge_marked(alloc, borrow_texts(alloc, texts)?, &marks)?;
-    Ok(shard.text(alloc)?)
+    merge_as_by::<S, ByHalves>(alloc, texts, plan)
 }

@@ -2,13 +2,12 @@
 ghost use Rattle.grid.specs.Place.{Transform};
 ghost use Rattle.merging.specs.Meaning as meaning;
 ghost use Rattle.merging.specs.Meaning.{Commutes, Associates, IsIdempotent};
-ghost use Rattle.merging.specs.declared.fault.JoinFault.TheVariants.{OtherGrid, OutOfMemory};
-ghost use Rattle.merging.specs.Plans.{union_all};
+ghost use Rattle.merging.specs.declared.fault.JoinFault.TheVariants.{OtherGrid};
 ghost use Rattle.reading.specs.Fault.{LeastOrWant};
 ghost use Rattle.shapes.specs.Fitting.{MapFits};
 ghost use Rattle.shapes.specs.Maps.{Layers};
 ghost use Rattle.shapes.specs.Union.{union};
-ghost use Rattle.std.specs.Prelude.{◌≡◌, ◌↔◌, ◌<◌, [], All, IfErr, IfOk, IsErrOf, IsOkUnless, OnOk, length, map};
+ghost use Rattle.std.specs.Prelude.{◌≡◌, ◌↔◌, [], IfErr, IfOk, IsErrOf, OnOk};
 ghost use Rattle.topo_io.specs.Canon.{canon};
 ghost use Rattle.topo_io.specs.Means.{Means};
 ghost use Rattle.topo_io.specs.Roots.{faults_of_text};
@@ -18,7 +17,6 @@ use faults::{Fault, FaultKind, OutOfMemory};
 use grid::transform::Grid;
 use shapes::feature_map::FeatureMap;
 use std::alloc::Global;
-use std::collections::VecDeque;
 
 /// Whether two grids have the same numbers.
 pub fn same_grid(these: &Grid, those: &Grid) -> bool
@@ -90,27 +88,6 @@ pub trait Shard: Sized + Drop {
         ensures other_grid { IsErrOf result OtherGrid ↔ ¬ (grid_of self ≡ grid_of other) }
     {
         self.join(alloc, &other)
-    }
-
-    /// The join of all of some shards, each once. Where nothing else is written, the first two are joined and
-    /// put last, until one is left.
-    ///
-    /// # Errors
-    /// `OtherGrid` only where grids differ; `OutOfMemory`.
-    fn join_many(alloc: Global, shards: Vec<Self>) -> Result<Self, JoinFault>
-        requires some { 0 < length shards.items }
-        ensures union { IfOk result (λ s. map_of s ≡ union_all (map map_of shards.items)) }
-        ensures grid { (g : Transform) → All (λ s. grid_of s ≡ g) shards.items → IfOk result (λ s. grid_of s ≡ g) }
-        ensures memory { (g : Transform) → All (λ s. grid_of s ≡ g) shards.items → IsOkUnless result OutOfMemory }
-    {
-        let mut left = VecDeque::from(shards);
-        'pairs: while let Some(first) = left.pop_front() {
-            let Some(second) = left.pop_front() else {
-                return Ok(first);
-            };
-            left.push_back(first.join_owned(alloc, second)?)?;
-        }
-        unreachable!()
     }
 
     /// The canonical text of the shard's topology. Where the map fits the grid, it is read back as both.

@@ -1,7 +1,11 @@
 -- The parts of many topologies: their layers by the arcs of one table, merged two by two, are the parts of the union's topology.
-use Rattle.std.proofs.Common.{◌≡◌, ℕ, zero, suc, ◌+◌, List, [], ◌∷◌, ◌++◌, inl, inr, Some, slice_get, refl, sym, ap, ◌∙◌, subst, arith}
-use Rattle.std.specs.Prelude.{map as map_list}
+use Rattle.std.proofs.Common.{◌≡◌, ℕ, zero, suc, ◌+◌, true, ◌&&◌, List, [], ◌∷◌, ◌++◌, append-nil, append_assoc, length, inl, inr, Some, slice_get, refl, sym, ap, ◌∙◌, subst, arith}
+use Rattle.std.specs.Prelude.{map as map_list, All}
+use Rattle.std.proofs.lemmas.List.Elements.{All-head, All-tail}
 use Rattle.std.specs.FinMap as map
+use Rattle.std.specs.Cmp.Lexicographic.{slice_cmp}
+use Rattle.std.specs.Ordering.{nat_cmp}
+use Rattle.grid.specs.Place.{Transform}
 use Rattle.grid.specs.declared.pos.Pos.{Pos}
 use Rattle.lines.specs.Turned.{position_cmp}
 use Rattle.shapes.specs.Maps.{Features, Layers}
@@ -14,14 +18,14 @@ use Rattle.chains.specs.Seen as seen_by
 use Rattle.chains.specs.Seen.{geometry_of, seen}
 use Rattle.chains.specs.Table.{IsTableOf}
 use Rattle.theory.specs.Geometry.{Geometry, IsSound, JunctionOf}
-use Rattle.theory.specs.Lists.{Has, Pairwise}
+use Rattle.theory.specs.Lists.{Has, Pairwise, gathered}
 use Rattle.theory.specs.Refinement.{IsPartOf, IsRefinementOf}
-use Rattle.theory.specs.Topology.{IsGeometryOf, IsLayerOf}
+use Rattle.theory.specs.Topology.{IsGeometryOf, IsLayerOf, forms_of, lines_in, rings_in}
 use Rattle.theory.proofs.Lists.{Has-append}
 use Rattle.theory.proofs.ListsOfLists.{Has-map, map_has}
 use Rattle.merging.specs.Laws.{union_associates, union_commutes, union_empty}
 use Rattle.merging.specs.Plans.{union_all}
-use Rattle.merging.proofs.PlanLemmas.{union_all-append}
+use Rattle.merging.proofs.PlanLemmas.{same_grid_same, union_all-append}
 use Rattle.renumbering.proofs.GeometryOrderLemmas.NodedTables.{table_noded}
 use Rattle.renumbering.specs.GeometryOrder.Noded.{AreNoded}
 use Rattle.renumbering.specs.LayerLaws.CutLayers.{layer_recut, layers_merged}
@@ -38,7 +42,8 @@ use Rattle.topo.specs.OfMap.{ArePartsOf, IsOf, item_of, layer_of}
 use Rattle.topo.specs.Parts.{LayerParts, TopologyParts}
 use Rattle.topo.specs.declared.geom.Geom.{Geom}
 use Rattle.topo.proofs.Sound.{are_sound}
-use Rattle.refine.specs.ManyLayers.{AreLayersOf, ArePartsOfAll, layers_recut_from}
+use Rattle.refine.specs.ManyLayers.{AreLayersOf, ArePartsOfAll, are_on, layers_recut_from, maps_of}
+use Rattle.refine.specs.OnGrid.{MapOnGrid}
 
 -- what stands side by side in mapped lists
 mapped_pairs : {A B C D : Type 0} (R : C → D → Type 0) (f : A → C) (h : B → D) (xs : List A) (ys : List B) → Pairwise (λ x y. R (f x) (h y)) xs ys → Pairwise R (map_list f xs) (map_list h ys)
@@ -97,9 +102,20 @@ pub parts_more : (m : Layers) (t : Arcs) (ls : List LayerParts) (ms : List Layer
     ArePartsOfAll (m ∷ ms) (t ∷ ts) (ls ∷ lists)
 parts_more m t ls ms ts lists h k = (h, k)
 
+pub no_items : {A : Type 0} (l : List A) → length l ≡ 0 → l ≡ []
+no_items [] h = refl
+no_items (x ∷ l) h = absurd (omega (arith, h))
+
+empty_entries : map.entries (union_all []) ≡ []
+empty_entries = no_items (map.entries (union_all [])) (sym (map.len-entries map.empty) ∙ map.len-empty (slice_cmp nat_cmp) Features)
+
 -- the geometries of maps, united
 pub all_unite : (ms : List Layers) → IsUnionOfAll (map_list geometry_of ms) (geometry_of (union_all ms))
-all_unite [] = record { parts = λ m h. absurd h; lines = λ l h. absurd h; rings = λ r h. absurd h }
+all_unite [] = record {
+  parts = λ m h. absurd h;
+  lines = λ l h. absurd (subst (λ es. Has l (gathered lines_in (forms_of (map_list seen_by.layer_of es)))) empty_entries h);
+  rings = λ r h. absurd (subst (λ es. Has r (gathered rings_in (forms_of (map_list seen_by.layer_of es)))) empty_entries h);
+}
 all_unite (m ∷ ms) =
     let more = all_unite ms in
     let both = geometries_unite m (union_all ms) in
@@ -238,5 +254,35 @@ module _ (u : Layers) (table : List (List Pos)) (ms : List Layers) where
   none_left left a e = go a.maps (subst (Pairwise (AreLayersOf u table) a.maps) e a.each) a.same
     where
       go : (ns : List Layers) → Pairwise (AreLayersOf u table) ns [] → union_all ns ≡ union_all ms → AreLayersOf u table (union_all ms) []
-      go [] p s = subst (λ w. AreLayersOf u table w []) s tt
+      go [] p s =
+          subst (λ w. AreLayersOf u table w []) s
+          (subst (λ es. Pairwise (IsLayerOf position_cmp (JunctionOf (geometry_of u)) table) (map_list seen_by.layer_of es) []) (sym empty_entries) tt)
       go (n ∷ ns) p s = absurd p
+
+-- a topology's arcs and layers, as they are handed over
+pub parts_over : (m : Layers) (t : TopologyParts) (a : Arcs) (l : List LayerParts) → IsOf m t → a ≡ t.arcs → l ≡ t.layers → ArePartsOf m a l
+parts_over m t a l h e f = subst (λ w. ArePartsOf m w l) (sym e) (subst (ArePartsOf m t.arcs) (sym f) (parts_of m t h))
+
+-- one more topology is taken apart
+pub parts_step : (all left rest : List Layers) (m : Layers) (tables new : List Arcs) (lists more : List (List LayerParts)) (a : Arcs) (l : List LayerParts) →
+    ((ts : List Arcs) (ls : List (List LayerParts)) → ArePartsOfAll left ts ls → ArePartsOfAll all (tables ++ ts) (lists ++ ls)) → left ≡ m ∷ rest → ArePartsOf m a l →
+    new ≡ tables ++ (a ∷ []) → more ≡ lists ++ (l ∷ []) →
+    (ts : List Arcs) (ls : List (List LayerParts)) → ArePartsOfAll rest ts ls → ArePartsOfAll all (new ++ ts) (more ++ ls)
+parts_step all left rest m tables new lists more a l before e h n k ts ls p =
+    let one : ArePartsOfAll all (tables ++ (a ∷ ts)) (lists ++ (l ∷ ls)) = before (a ∷ ts) (l ∷ ls) (subst (λ w. ArePartsOfAll w (a ∷ ts) (l ∷ ls)) (sym e) (h, p)) in
+    subst (λ w. ArePartsOfAll all (w ++ ts) (more ++ ls)) (sym n)
+    (subst (λ w. ArePartsOfAll all ((tables ++ (a ∷ [])) ++ ts) (w ++ ls)) (sym k)
+    (subst (λ w. ArePartsOfAll all w ((lists ++ (l ∷ [])) ++ ls)) (sym (append_assoc tables (a ∷ []) ts))
+    (subst (ArePartsOfAll all (tables ++ (a ∷ ts))) (sym (append_assoc lists (l ∷ []) ls)) one)))
+
+pub parts_done : (all left : List Layers) (tables : List Arcs) (lists : List (List LayerParts)) →
+    ((ts : List Arcs) (ls : List (List LayerParts)) → ArePartsOfAll left ts ls → ArePartsOfAll all (tables ++ ts) (lists ++ ls)) → left ≡ [] → ArePartsOfAll all tables lists
+parts_done all left tables lists before e =
+    subst (λ w. ArePartsOfAll all w lists) (append-nil tables)
+    (subst (ArePartsOfAll all (tables ++ [])) (append-nil lists) (before [] [] (subst (λ w. ArePartsOfAll w [] []) (sym e) tt)))
+
+-- all shards are on the grid
+pub all_on_grid : (g h : Transform) (ss : List MapOnGrid) → All (λ s. s.grid ≡ g) ss → g ≡ h → are_on h ss ≡ true
+all_on_grid g h [] a e = refl
+all_on_grid g h (s ∷ ss) a e =
+    (λ i. same_grid_same s.grid h (All-head (λ (w : MapOnGrid). w.grid ≡ g) s ss a ∙ e) i && are_on h ss) ∙ all_on_grid g h ss (All-tail (λ (w : MapOnGrid). w.grid ≡ g) s ss a) e

@@ -2,7 +2,7 @@
 //! pieces once, and the sorted layers are merged two by two.
 ghost use Rattle.grid.specs.Place.{Transform};
 ghost use Rattle.merging.specs.Plans.{union_all};
-ghost use Rattle.merging.specs.declared.fault.JoinFault.TheVariants.{OutOfMemory};
+ghost use Rattle.merging.specs.declared.fault.JoinFault.TheVariants as join_fault;
 ghost use Rattle.refine.specs.ManyLayers.{ArePartsOfAll, AreLayersOf, are_on, layers_in, layers_recut_from, maps_of};
 ghost use Rattle.renumbering.specs.GeometryOrder.Noded.{AreNoded};
 ghost use Rattle.renumbering.specs.LayerLaws.Cuts as cuts;
@@ -17,15 +17,15 @@ use crate::fault::JoinFault;
 use chains::table::{ArcRef, ArcTable};
 use faults::OutOfMemory;
 use grid::transform::Grid;
-use merging::join_all;
 use merging::shard::same_grid;
+use merging::{JoinMany, join_all};
 use renumbering::{NewLists, layers_rewritten};
 use split_arcs::{RecutAll, recut_all};
 use std::alloc::Global;
 use std::collections::VecDeque;
 use topo::{Layer, Topology};
 
-/// As many shards are joined two at a time: the boxes of two tables spare more than one index over both.
+/// So many shards are joined two at a time: the boxes of two tables spare more than one index over both.
 const MOST_IN_PAIRS: usize = 2;
 
 /// The lists of a table by the new arcs.
@@ -134,7 +134,7 @@ fn join_at_once(alloc: Global, shards: Vec<Cut>) -> Result<Cut, JoinFault>
     requires some { 0 < length shards.items }
     ensures union { IfOk result (λ s. s.map ≡ union_all (maps_of shards.items)) }
     ensures grid { (g : Transform) → All (λ s. s.grid ≡ g) shards.items → IfOk result (λ s. s.grid ≡ g) }
-    ensures memory { (g : Transform) → All (λ s. s.grid ≡ g) shards.items → IsOkUnless result OutOfMemory }
+    ensures memory { (g : Transform) → All (λ s. s.grid ≡ g) shards.items → IsOkUnless result join_fault.OutOfMemory }
 {
     let grid = shards[0].topology().grid();
     if !are_on_grid(&shards, &grid) {
@@ -144,18 +144,19 @@ fn join_at_once(alloc: Global, shards: Vec<Cut>) -> Result<Cut, JoinFault>
     Ok(Cut::of_topology(topology))
 }
 
-/// The shard of the features of all, each joined once: two at a time where they are few, else all at once.
-///
-/// # Errors
-/// `OtherGrid` only where the grids differ; `OutOfMemory`.
-pub(crate) fn join_many_shards(alloc: Global, shards: Vec<Cut>) -> Result<Cut, JoinFault>
-    requires some { 0 < length shards.items }
-    ensures union { IfOk result (λ s. s.map ≡ union_all (maps_of shards.items)) }
-    ensures grid { (g : Transform) → All (λ s. s.grid ≡ g) shards.items → IfOk result (λ s. s.grid ≡ g) }
-    ensures memory { (g : Transform) → All (λ s. s.grid ≡ g) shards.items → IsOkUnless result OutOfMemory }
-{
-    if shards.len() <= MOST_IN_PAIRS {
-        return join_all(alloc, shards);
+/// All at once: the arcs of all shards are cut again together. Two are joined two at a time.
+pub struct AtOnce;
+
+impl JoinMany<Cut> for AtOnce {
+    fn join_many(alloc: Global, shards: Vec<Cut>) -> Result<Cut, JoinFault>
+        requires some { 0 < length shards.items }
+        ensures union { IfOk result (λ s. s.map ≡ union_all (maps_of shards.items)) }
+        ensures grid { (g : Transform) → All (λ s. s.grid ≡ g) shards.items → IfOk result (λ s. s.grid ≡ g) }
+        ensures memory { (g : Transform) → All (λ s. s.grid ≡ g) shards.items → IsOkUnless result join_fault.OutOfMemory }
+    {
+        if shards.len() <= MOST_IN_PAIRS {
+            return join_all(alloc, shards);
+        }
+        join_at_once(alloc, shards)
     }
-    join_at_once(alloc, shards)
 }

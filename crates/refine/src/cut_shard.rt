@@ -5,7 +5,6 @@ ghost use Rattle.std.specs.Prelude.{◌≡◌};
 
 pub use crate::cut::Cut;
 use crate::cut::{join_shards, join_shards_owned};
-use crate::cut_all::join_many_shards;
 use crate::fault::JoinFault;
 use faults::{Fault, OutOfMemory};
 use grid::transform::Grid;
@@ -50,10 +49,6 @@ impl Shard for Cut {
 
     fn join_owned(self, alloc: Global, other: Cut) -> Result<Cut, JoinFault> {
         join_shards_owned(alloc, self, other)
-    }
-
-    fn join_many(alloc: Global, shards: Vec<Cut>) -> Result<Cut, JoinFault> {
-        join_many_shards(alloc, shards)
     }
 
     fn text(&self, alloc: Global) -> Result<Vec<u8>, OutOfMemory> {

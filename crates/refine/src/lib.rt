@@ -3,7 +3,7 @@
 #![tactic(auto)]
 
 mod cut;
-mod cut_all;
+pub mod cut_all;
 pub mod cut_shard;
 mod difference;
 pub mod edit;

@@ -7,15 +7,17 @@ ghost use Rattle.std.specs.Prelude.{◌≡◌, ℕ, IfOk, IfErr, IfSome, List, M
 ghost use Rattle.topo.specs.OfMap.{seen_parts};
 ghost use Rattle.topo_io.specs.TopologyText.{topology_text};
 
+use crate::cut_all::AtOnce;
 use crate::cut_shard::Cut;
 use crate::fault::MergeFault;
 use merging::Plan;
+use merging::merge::{merge_all_by, merge_as_by};
 pub use merging::merge::{merge_all, merge_as};
 use std::alloc::Global;
 use topo::Topology;
 
 /// The canonical text of the union of the features of the texts that the plan names. These are joined
-/// at once, whatever the plan's order and grouping, which make no difference to the bytes.
+/// each once and all at once, whatever the plan's grouping, which makes no difference to the bytes.
 ///
 /// # Errors
 /// `BadPlan` with the first leaf from the left that is no index of the list; otherwise `Text` with
@@ -28,7 +30,7 @@ pub fn merge_texts(alloc: Global, texts: &[Vec<u8>], plan: &Plan) -> Result<Vec<
     ensures merged { IfOk result (λ t. IsMergeOf (bytes_of texts.now) (leaves plan.now) t.items) }
     ensures accepted { IfOk result (λ t. MeansUnion (bytes_of texts.now) (leaves plan.now) t.items) }
 {
-    merge_as::<Cut>(alloc, texts, plan)
+    merge_as_by::<Cut, AtOnce>(alloc, texts, plan)
 }
 
 // The topology of the shard of a union, where there is one.
@@ -54,7 +56,7 @@ pub fn merge_topologies(alloc: Global, texts: Vec<Vec<u8>>) -> Result<Option<Top
     ensures merged { IfOk result (λ o. MatchOption o (length texts.items ≡ 0) (IsTopologyOfUnion (bytes_of texts.items) (all_indexes texts.items))) }
     ensures text { IfOk result (λ o. IfSome o (λ t. IsMergeOf (bytes_of texts.items) (all_indexes texts.items) (topology_text (seen_parts t)))) }
 {
-    Ok(topology_of_union(merge_all(alloc, texts)?))
+    Ok(topology_of_union(merge_all_by::<Cut, AtOnce, Vec<u8>>(alloc, texts)?))
 }
 
 /// `merge_topologies` of borrowed texts: none is copied, and all stay in memory to the end.
@@ -69,7 +71,7 @@ pub fn merge_borrowed_topologies(
     ensures merged { IfOk result (λ o. MatchOption o (length texts.now ≡ 0) (IsTopologyOfUnion (lent_texts texts.now) (all_indexes texts.now))) }
     ensures text { IfOk result (λ o. IfSome o (λ t. IsMergeOf (lent_texts texts.now) (all_indexes texts.now) (topology_text (seen_parts t)))) }
 {
-    match merge_all(alloc, texts.to_vec(alloc)?) {
+    match merge_all_by::<Cut, AtOnce, &[u8]>(alloc, texts.to_vec(alloc)?) {
         Ok(shard) => Ok(topology_of_union(shard)),
         Err(fault) => Err(fault),
     }

@@ -6,8 +6,8 @@ ghost use Rattle.std.specs.Prelude.{◌≡◌};
 use crate::fault::JoinFault;
 use faults::{Fault, OutOfMemory};
 use grid::transform::Grid;
+use merging::Shard;
 use merging::shard::same_grid;
-use merging::{Shard, join_all};
 use shapes::feature_map::FeatureMap;
 use std::alloc::Global;
 use topo::topology::Topology;
@@ -57,10 +57,6 @@ impl Shard for Whole {
             grid: self.grid,
             map,
         })
-    }
-
-    fn join_many(alloc: Global, shards: Vec<Whole>) -> Result<Whole, JoinFault> {
-        join_all(alloc, shards)
     }
 
     fn text(&self, alloc: Global) -> Result<Vec<u8>, OutOfMemory> {

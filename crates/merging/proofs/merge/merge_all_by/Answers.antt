@@ -4,7 +4,7 @@ use Rattle.std.proofs.lemmas.Result.{err_from_is_err_and}
 use Rattle.lines.proofs.Codes.{not_empty}
 use Rattle.merging.specs.Merge.{all_indexes, IsMergeFault}
 use Rattle.merging.proofs.MarkLemmas.{marks_of_all}
-use Rattle.merging.proofs.merge.merge_all.Goals as goal
+use Rattle.merging.proofs.merge.merge_all_by.Goals as goal
 
 pub merge_marked-requires : goal.merge_marked-requires
 merge_marked-requires g c =

@@ -8,7 +8,7 @@ use Rattle.merging.proofs.LeafLemmas.{has_indexes, some_leaves}
 use Rattle.merging.proofs.MarkLemmas.{marks_at}
 use Rattle.merging.proofs.MergeLemmas.{lent_bytes, lent_count}
 use Rattle.merging.proofs.ThroughTexts.{means_union}
-use Rattle.merging.proofs.merge.merge_as.Goals as goal
+use Rattle.merging.proofs.merge.merge_as_by.Goals as goal
 
 pub named_indexes-requires : goal.named_indexes-requires
 named_indexes-requires g c = record { indexes = has_indexes _ _ (sym c.in_default.ensures.first) }
