@@ -3,9 +3,10 @@
 use faults::{FaultKind, OutOfMemory};
 use grid::Grid;
 use merging::{
-    JoinFault, MergeFault, Plan, Shard, first_bad_leaf, join_all, merge_all, merge_as,
-    named_indexes,
+    ByHalves, JoinFault, JoinMany, MergeFault, Plan, Shard, first_bad_leaf, join_all, merge_all,
+    merge_all_by, merge_as, merge_as_by, named_indexes,
 };
+use refine::cut_all::AtOnce;
 use refine::{Cut, Whole, merge_borrowed_topologies, merge_topologies};
 use refused_calls::calls;
 use refused_calls::calls::Lent;
@@ -117,8 +118,8 @@ fn three<S: Shard>(alloc: Global, pair: &Pair<S>) -> Result<Vec<S>, OutOfMemory>
     Ok(shards)
 }
 
-fn join_many<S: Shard>(alloc: Global, pair: &Pair<S>) -> Result<bool, OutOfMemory> {
-    is_join(alloc, S::join_many(alloc, three(alloc, pair)?))
+fn join_many<S: Shard, J: JoinMany<S>>(alloc: Global, pair: &Pair<S>) -> Result<bool, OutOfMemory> {
+    is_join(alloc, J::join_many(alloc, three(alloc, pair)?))
 }
 
 fn join_by_halves<S: Shard>(alloc: Global, pair: &Pair<S>) -> Result<bool, OutOfMemory> {
@@ -160,6 +161,14 @@ fn merge_to_shard<S: Shard>(alloc: Global, _: &Pair<S>) -> Result<bool, OutOfMem
     is_merged_shard(alloc, made)
 }
 
+fn merge_at_once_to_shard(alloc: Global, _: &Pair<Cut>) -> Result<bool, OutOfMemory> {
+    let made: Result<Option<Cut>, MergeFault> = merge_all_by::<Cut, AtOnce, Vec<u8>>(
+        alloc,
+        texts(alloc)?,
+    );
+    is_merged_shard(alloc, made)
+}
+
 fn merge_borrowed_to_shard<S: Shard>(alloc: Global, _: &Pair<S>) -> Result<bool, OutOfMemory> {
     let texts = [FIRST.as_bytes(), SECOND.as_bytes()]
         .as_slice()
@@ -171,6 +180,14 @@ fn merge_borrowed_to_shard<S: Shard>(alloc: Global, _: &Pair<S>) -> Result<bool,
 fn merge_to_text<S: Shard>(alloc: Global, pair: &Pair<S>) -> Result<bool, OutOfMemory> {
     let texts = texts(alloc)?;
     match merged(merge_as::<S>(alloc, texts.as_slice(), &pair.plan))? {
+        Some(text) => Ok(text.as_slice() == SHARED_EDGE.as_bytes()),
+        None => Ok(false),
+    }
+}
+
+fn merge_at_once_to_text(alloc: Global, pair: &Pair<Cut>) -> Result<bool, OutOfMemory> {
+    let texts = texts(alloc)?;
+    match merged(merge_as_by::<Cut, AtOnce>(alloc, texts.as_slice(), &pair.plan))? {
         Some(text) => Ok(text.as_slice() == SHARED_EDGE.as_bytes()),
         None => Ok(false),
     }
@@ -212,7 +229,7 @@ fn test_wholes(rt: &HostRuntime, tally: &mut Tally, pair: &Pair<Whole>) {
         "Shard::copy of Whole" => copy::<Whole>,
         "Shard::join of Whole" => join::<Whole>,
         "Shard::join_owned of Whole" => join_owned::<Whole>,
-        "Shard::join_many of Whole" => join_many::<Whole>,
+        "JoinMany::join_many by halves" => join_many::<Whole, ByHalves>,
         "merging::join_all of Whole" => join_by_halves::<Whole>,
         "Shard::text of Whole" => text::<Whole>,
         "merging::merge_all of Whole" => merge_to_shard::<Whole>,
@@ -228,12 +245,14 @@ fn test_cuts(rt: &HostRuntime, tally: &mut Tally, pair: &Pair<Cut>) {
         "Shard::copy of Cut" => copy::<Cut>,
         "Shard::join of Cut" => join::<Cut>,
         "Shard::join_owned of Cut" => join_owned::<Cut>,
-        "Shard::join_many of Cut" => join_many::<Cut>,
+        "JoinMany::join_many at once" => join_many::<Cut, AtOnce>,
         "merging::join_all of Cut" => join_by_halves::<Cut>,
         "Shard::text of Cut" => text::<Cut>,
         "merging::merge_all of Cut" => merge_to_shard::<Cut>,
         "merging::merge_all of borrowed texts of Cut" => merge_borrowed_to_shard::<Cut>,
         "merging::merge_as of Cut" => merge_to_text::<Cut>,
+        "merging::merge_all_by" => merge_at_once_to_shard,
+        "merging::merge_as_by" => merge_at_once_to_text,
         "refine::merge_topologies" => merge_to_topology,
         "refine::merge_borrowed_topologies" => merge_borrowed_to_topology,
         "merging::named_indexes" => name_indexes,
