@@ -1,5 +1,5 @@
 -- The parts of many topologies: their layers by the arcs of one table, merged two by two, are the parts of the union's topology.
-use Rattle.std.proofs.Common.{◌≡◌, ℕ, zero, suc, ◌+◌, true, ◌&&◌, List, [], ◌∷◌, ◌++◌, append-nil, append_assoc, length, inl, inr, Some, slice_get, refl, sym, ap, ◌∙◌, subst, arith}
+use Rattle.std.proofs.Common.{◌≡◌, ℕ, suc, ◌+◌, true, ◌&&◌, List, [], ◌∷◌, ◌++◌, append-nil, append_assoc, length, inl, inr, Some, slice_get, refl, sym, ap, ◌∙◌, subst, arith}
 use Rattle.std.specs.Prelude.{map as map_list, All}
 use Rattle.std.proofs.lemmas.List.Elements.{All-head, All-tail}
 use Rattle.std.specs.FinMap as map
@@ -11,7 +11,6 @@ use Rattle.lines.specs.Turned.{position_cmp}
 use Rattle.shapes.specs.Maps.{Features, Layers}
 use Rattle.shapes.specs.Sets as set
 use Rattle.shapes.specs.Union.{union}
-use Rattle.shapes.specs.declared.feature.Feature.{Feature}
 use Rattle.chains.specs.Arcs.{Arcs}
 use Rattle.chains.specs.ManyTables.{AreTablesOf, IsUnionOfAll}
 use Rattle.chains.specs.Seen as seen_by
@@ -21,7 +20,6 @@ use Rattle.theory.specs.Geometry.{Geometry, IsSound, JunctionOf}
 use Rattle.theory.specs.Lists.{Has, Pairwise, gathered}
 use Rattle.theory.specs.Refinement.{IsPartOf, IsRefinementOf}
 use Rattle.theory.specs.Topology.{IsGeometryOf, IsLayerOf, forms_of, lines_in, rings_in}
-use Rattle.theory.proofs.Lists.{Has-append}
 use Rattle.theory.proofs.ListsOfLists.{Has-map, map_has}
 use Rattle.merging.specs.Laws.{union_associates, union_commutes, union_empty}
 use Rattle.merging.specs.Plans.{union_all}
@@ -29,20 +27,18 @@ use Rattle.merging.proofs.PlanLemmas.{same_grid_same, union_all-append}
 use Rattle.renumbering.proofs.GeometryOrderLemmas.NodedTables.{table_noded}
 use Rattle.renumbering.specs.GeometryOrder.Noded.{AreNoded}
 use Rattle.renumbering.specs.LayerLaws.CutLayers.{layer_recut, layers_merged}
-use Rattle.renumbering.proofs.LayerLawsLemmas.JoinedLayers.{IsJoinedLayer, IsNewFor}
+use Rattle.renumbering.proofs.LayerLawsLemmas.JoinedLayers.{IsJoinedLayer}
 use Rattle.renumbering.proofs.LayerLawsLemmas.JoinedPairs.{cut_layers, layers_have, layers_joined}
 use Rattle.renumbering.proofs.LayerLawsLemmas.MergedLayers.{entries_of_union}
 use Rattle.renumbering.proofs.LayerLawsLemmas.RecutGeometries.{layers_after_recut}
 use Rattle.renumbering.proofs.LayerLawsLemmas.UnitedGeometry.{geometries_unite}
 use Rattle.split_arcs.specs.CuttingAll.{IsRecutOfAll}
 use Rattle.split_arcs.specs.PartsOfAll.{RecutAllParts, of_table}
-use Rattle.topo.specs.Features.{HasFeature}
 use Rattle.topo.specs.GeometryOrder.{LayersHaveFeatures}
 use Rattle.topo.specs.OfMap.{ArePartsOf, IsOf, item_of, layer_of}
 use Rattle.topo.specs.Parts.{LayerParts, TopologyParts}
-use Rattle.topo.specs.declared.geom.Geom.{Geom}
 use Rattle.topo.proofs.Sound.{are_sound}
-use Rattle.refine.specs.ManyLayers.{AreLayersOf, ArePartsOfAll, are_on, layers_recut_from, maps_of}
+use Rattle.refine.specs.ManyLayers.{AreLayersOf, ArePartsOfAll, are_on, layers_recut_from}
 use Rattle.refine.specs.OnGrid.{MapOnGrid}
 
 -- what stands side by side in mapped lists

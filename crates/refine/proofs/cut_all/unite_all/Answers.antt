@@ -1,4 +1,4 @@
-use Rattle.std.proofs.Common.{◌≡◌, ◌∙◌, subst, sym}
+use Rattle.std.proofs.Common.{subst, sym}
 use Rattle.theory.specs.Lists.{Pairwise}
 use Rattle.chains.specs.Table.{IsTableOf}
 use Rattle.chains.specs.Seen.{geometry_of}
