@@ -46,7 +46,7 @@ SPEED = ["reading/*/[tT]oken*", "geojson_io/*/[tT]oken*", "topo_io/*/[tT]oken*",
          "theory/*/Valid*", "renumbering/*/geometry_order*", "renumbering/*/GeometryOrder*", "renumbering/*/layer_laws*",
          "renumbering/*/LayerLaws*"]
 USERS = ["numerals/*", "fixing/*", "attributes/*", "decimal_*", "decimals/*", "snapping/*", "rounded_maps/*", "rounding_*", "togrid/*",
-         "command_line/src/togrid*", "compare/*", "noshinka/*", "report_texts/*", "reading/*/fault_lists*", "reading/*/FaultLists*",
+         "command_line/src/togrid*", "compare/*", "c_calls/*", "noshinka/*", "report_texts/*", "reading/*/fault_lists*", "reading/*/FaultLists*",
          "*/[vV]alidity/*", "*/validity.rt", "*/Validity.antt", "text_parts/*", "fault_reports/*", "difference_text/*", "outputs/*/[iI]nfo*",
          "tool/src/diff*", "tool/src/check*", "tool/src/faults*", "query/*_by*", "query/*By*", "query/*/[kK]eyed*",
          "query/*/properties*", "query/*/distinct*", "query/*/info*", "query/*/sequence*", "query/*edges*", "query/*/borders*"]
