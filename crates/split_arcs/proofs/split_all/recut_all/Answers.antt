@@ -45,6 +45,6 @@ returns c = λ maps u are union.
     recut_of_all maps tables are u union js (c.in_ok-cuts.ensures.arcs maps tables listed are) ps
     (all_pieces_are js tables arcs c.in_ok-arcs.ensures.arcs marks stay ps pieces) new c.in_ok-table.ensures.arcs c.in_ok-table.ensures.of_map _ c.with_extent.ensures
     (λ i t k.
-        ap (λ w. list_at i (parts_between c.in_ok-arcs.begins.items w)) c.between.ensures
-        ∙ table_lists js tables arcs c.in_ok-arcs.ensures.arcs marks stay ps pieces new.arcs c.in_ok-table.refs.items c.in_ok-table.ensures.refs c.in_ok-bounds.bounds.items
-        c.in_ok-arcs.begins.items c.in_ok-bounds.ensures.bounds c.in_ok-arcs.ensures.begins i t k)
+    ap (λ w. list_at i (parts_between c.in_ok-arcs.begins.items w)) c.between.ensures
+    ∙ table_lists js tables arcs c.in_ok-arcs.ensures.arcs marks stay ps pieces new.arcs c.in_ok-table.refs.items c.in_ok-table.ensures.refs c.in_ok-bounds.bounds.items
+    c.in_ok-arcs.begins.items c.in_ok-bounds.ensures.bounds c.in_ok-arcs.ensures.begins i t k)
