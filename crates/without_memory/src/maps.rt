@@ -5,9 +5,9 @@ mod results;
 
 use arcs::{Cut, Squares};
 use refused_calls::outcome::Tally;
-use results::{Results, Shards};
+use results::{CutAtOnce, Results, Shards};
 
 /// Makes these calls.
 pub(crate) fn test(rt: &HostRuntime, tally: &mut Tally) {
-    tally.test_handed::<((Squares, Cut), (Results, Shards))>(rt);
+    tally.test_handed::<((Squares, Cut), (Results, (CutAtOnce, Shards)))>(rt);
 }

@@ -1,6 +1,7 @@
 //! What is made of topologies: arcs cut again and joined again, removals, sessions and shards.
 
-use chains::ArcRef;
+use chains::{ArcRef, ArcTable};
+use faults::OutOfMemory;
 use grid::Grid;
 use heal_arcs::{HealedArcs, heal};
 use merging::Shard;
@@ -13,8 +14,9 @@ use refused_calls::outcome::Tally;
 use refused_calls::rows;
 use refused_calls::tables::both;
 use refused_calls::texts::{FIRST, SECOND, SHARED_EDGE, THIRD};
-use split_arcs::{Recut, Side, recut};
+use split_arcs::{Recut, RecutAll, Side, recut, recut_all};
 use std::alloc::Global;
+use topo::Topology;
 
 /// The arcs of two squares, cut again with those of a third and joined again without the second, and the squares
 /// without the second.
@@ -122,6 +124,46 @@ impl Handed for Results {
             "HealedArcs::into_parts" => has_run,
             "ArcRun::as_slice" => has_run,
             "Removal::into_topology" => is_first,
+        );
+    }
+}
+
+/// The arcs of two squares and of a third, cut again at once.
+#[derive(Drop)]
+pub(crate) struct CutAtOnce {
+    recut: RecutAll,
+}
+
+fn tables(alloc: Global, two: Topology, third: Topology) -> Result<Vec<ArcTable>, OutOfMemory> {
+    let mut tables = Vec::with_capacity(alloc, 2)?;
+    tables.push(two.into_parts().0)?;
+    tables.push(third.into_parts().0)?;
+    Ok(tables)
+}
+
+fn has_all_cut(recut: &RecutAll) -> bool {
+    is_list(recut.pieces(0, 2), &[2, 4, -4])
+        && is_list(recut.pieces(1, 0), &[4, -6])
+        && recut.pieces(1, 1).is_none()
+        && recut.pieces(2, 0).is_none()
+}
+
+impl Handed for CutAtOnce {
+    fn make(alloc: Global) -> Option<CutAtOnce> {
+        let (two, third) = both(built(alloc, SHARED_EDGE), built(alloc, THIRD))?;
+        let tables = tables(alloc, two, third).ok()?;
+        let recut = recut_all(alloc, tables).ok()?;
+        Some(CutAtOnce { recut })
+    }
+
+    fn test(self, rt: &HostRuntime, tally: &mut Tally) {
+        let has_arcs = self.recut.arcs().len() == 6;
+        let has_cut = has_all_cut(&self.recut);
+        let has_arcs_alone = self.recut.into_arcs().len() == 6;
+        rows!(rt, tally;
+            "RecutAll::arcs" => has_arcs,
+            "RecutAll::pieces" => has_cut,
+            "RecutAll::into_arcs" => has_arcs_alone,
         );
     }
 }
