@@ -30,7 +30,7 @@ fn join_pairs<S: Shard>(alloc: Global, shards: Vec<S>) -> Result<Vec<S>, JoinFau
 }
 
 /// The join of all shards, by halves, along a Z-order curve: a round joins neighbours, until one is left. Each
-/// shard is handed over to the join that takes it.
+/// shard is passed to the join that takes it.
 ///
 /// # Errors
 /// `OtherGrid` only where grids differ; `OutOfMemory`.
