@@ -46,6 +46,8 @@ NO_GROWTH = {"Fault::here": NO_REQUEST, "FeatureMap::new": NO_REQUEST, "Kept::ne
 EXCEPTIONS = {
     "ArcTable::with_extent": JUDGED + "split_arcs::recut",
     "Become::make": "is what Form::try_map calls",
+    "JoinMany::join_many": JUDGED + "merging::merge_all_by",
+    "merging::join_all": JUDGED + "merging::merge_all",
     "Extent::around_all": "is what split_arcs::recut_all calls",
     "Topology::feature": JUDGED + "query::feature",
     "Topology::features": JUDGED + "query::feature",

@@ -3,8 +3,8 @@
 use faults::{FaultKind, OutOfMemory};
 use grid::Grid;
 use merging::{
-    ByHalves, JoinFault, JoinMany, MergeFault, Plan, Shard, first_bad_leaf, join_all, merge_all,
-    merge_all_by, merge_as, merge_as_by, named_indexes,
+    JoinFault, MergeFault, Plan, Shard, first_bad_leaf, merge_all, merge_all_by, merge_as,
+    merge_as_by, named_indexes,
 };
 use refine::cut_all::AtOnce;
 use refine::{Cut, Whole, merge_borrowed_topologies, merge_topologies};
@@ -107,23 +107,6 @@ fn join_owned<S: Shard>(alloc: Global, pair: &Pair<S>) -> Result<bool, OutOfMemo
     let left = pair.left.copy(alloc)?;
     let right = pair.right.copy(alloc)?;
     is_join(alloc, left.join_owned(alloc, right))
-}
-
-/// Copies of both shards, and one more of the left one.
-fn three<S: Shard>(alloc: Global, pair: &Pair<S>) -> Result<Vec<S>, OutOfMemory> {
-    let mut shards = Vec::with_capacity(alloc, 3)?;
-    shards.push(pair.left.copy(alloc)?)?;
-    shards.push(pair.right.copy(alloc)?)?;
-    shards.push(pair.left.copy(alloc)?)?;
-    Ok(shards)
-}
-
-fn join_many<S: Shard, J: JoinMany<S>>(alloc: Global, pair: &Pair<S>) -> Result<bool, OutOfMemory> {
-    is_join(alloc, J::join_many(alloc, three(alloc, pair)?))
-}
-
-fn join_by_halves<S: Shard>(alloc: Global, pair: &Pair<S>) -> Result<bool, OutOfMemory> {
-    is_join(alloc, join_all(alloc, three(alloc, pair)?))
 }
 
 fn text<S: Shard>(alloc: Global, pair: &Pair<S>) -> Result<bool, OutOfMemory> {
@@ -229,8 +212,6 @@ fn test_wholes(rt: &HostRuntime, tally: &mut Tally, pair: &Pair<Whole>) {
         "Shard::copy of Whole" => copy::<Whole>,
         "Shard::join of Whole" => join::<Whole>,
         "Shard::join_owned of Whole" => join_owned::<Whole>,
-        "JoinMany::join_many by halves" => join_many::<Whole, ByHalves>,
-        "merging::join_all of Whole" => join_by_halves::<Whole>,
         "Shard::text of Whole" => text::<Whole>,
         "merging::merge_all of Whole" => merge_to_shard::<Whole>,
         "merging::merge_all of borrowed texts of Whole" => merge_borrowed_to_shard::<Whole>,
@@ -245,8 +226,6 @@ fn test_cuts(rt: &HostRuntime, tally: &mut Tally, pair: &Pair<Cut>) {
         "Shard::copy of Cut" => copy::<Cut>,
         "Shard::join of Cut" => join::<Cut>,
         "Shard::join_owned of Cut" => join_owned::<Cut>,
-        "JoinMany::join_many at once" => join_many::<Cut, AtOnce>,
-        "merging::join_all of Cut" => join_by_halves::<Cut>,
         "Shard::text of Cut" => text::<Cut>,
         "merging::merge_all of Cut" => merge_to_shard::<Cut>,
         "merging::merge_all of borrowed texts of Cut" => merge_borrowed_to_shard::<Cut>,
