@@ -3,7 +3,7 @@
     python3 tests/joins_by_arcs.py
 
 The join of two topologies and the removal of features work on arcs. Contracts fix what they answer and can't say how, so this
-reads the code: cut.rt and remove.rt of crates/refine, stitching.rt and order.rt of crates/topo, each file that the
+reads the code: cut.rt, cut_all.rt and remove.rt of crates/refine, stitching.rt and order.rt of crates/topo, each file that the
 `use crate::` lines of these bring in, and so on, and all files of the crates that split and heal arcs and number them
 anew. None may name what expands a topology, builds one, makes a shard of a map, or cuts lines or rings, nor index the
 visits of a map. Files that are read by name bring in modules of their crate by such `use` lines alone.
@@ -17,7 +17,7 @@ import re
 import sys
 
 TOP = os.path.dirname(os.path.dirname(os.path.abspath(__file__)))
-NAMED = {"refine": ["cut.rt", "remove.rt"], "topo": ["stitching.rt", "order.rt"]}
+NAMED = {"refine": ["cut.rt", "cut_all.rt", "remove.rt"], "topo": ["stitching.rt", "order.rt"]}
 WHOLE = ["renumbering", "split_arcs", "heal_arcs"]
 
 CALLS = "expand|build|from_map|cut_line|cut_ring"
@@ -29,6 +29,8 @@ OTHERS = re.compile(r"\bcrate::|\bself::|\bsuper::|^\s*(pub(\([a-z]+\))? )?mod\b
 WALKS = [
     ("refine/src/cut.rt", "    let map = left.expand(alloc)?;"),
     ("refine/src/cut.rt", "    crate::whole::joined(alloc, left, right)"),
+    ("refine/src/cut_all.rt", "    Topology::build(alloc, &grid, &union)"),
+    ("refine/src/cut_all.rt", "    crate::whole::joined(alloc, shards)"),
     ("refine/src/remove.rt", "    Topology::build(alloc, &grid, &map)"),
     ("renumbering/src/rewritten.rt", "    let both = left.expand(alloc)?.union(alloc, &right.expand(alloc)?)?;"),
     ("renumbering/src/rewritten.rt", "    Topology::build(alloc, left.grid(), &both)"),
