@@ -33,7 +33,7 @@ import conditions
 import refusing
 from refusing import TOP
 
-CRATES = ["grid", "faults", "sinks", "lines", "shapes", "geojson_io", "chains", "topo", "topo_io", "query", "refine", "merging",
+CRATES = ["grid", "faults", "sinks", "lines", "shapes", "geojson_io", "arcs", "chains", "topo", "topo_io", "query", "refine", "merging",
           "split_arcs", "heal_arcs", "difference_text", "fault_reports", "outputs", "tool"]
 REFUSED = "refused_memory"
 GROUPS = ["parts", "arcs", "maps", "edits"]
@@ -49,6 +49,9 @@ EXCEPTIONS = {
     "JoinMany::join_many": JUDGED + "merging::merge_all_by",
     "merging::join_all": JUDGED + "merging::merge_all",
     "Extent::around_all": "is what split_arcs::recut_all calls",
+    "Extent::around": "is what split_arcs::recut calls",
+    "Extent::has": "is what split_arcs::recut calls",
+    "Extent::widen_by": "is what split_arcs::recut calls",
     "Topology::feature": JUDGED + "query::feature",
     "Topology::features": JUDGED + "query::feature",
     "topo::feature": JUDGED + "query::feature",

@@ -21,9 +21,9 @@ use Rattle.shapes.specs.declared.shape.Id.{Id}
 use Rattle.shapes.specs.declared.shape.Id.TheVariants as ids
 use Rattle.shapes.specs.declared.shape.Id.TheVariants.{Text}
 use Rattle.shapes.proofs.Entries.{found as found_entry}
-use Rattle.chains.specs.Arcs.{Arcs}
+use Rattle.arcs.specs.Arcs.{Arcs}
 use Rattle.chains.specs.Seen.{geometry_of}
-use Rattle.chains.specs.Table.{IsTableOf}
+use Rattle.arcs.specs.Table.{IsTableOf}
 use Rattle.theory.specs.Arcs.{AreArcsOf}
 use Rattle.theory.specs.Geometry.{Geometry, IsSound, JunctionOf}
 use Rattle.theory.specs.Lists.{Has, Pairwise}

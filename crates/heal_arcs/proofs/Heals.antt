@@ -22,15 +22,15 @@ use Rattle.theory.proofs.HealingKept.{part_sound}
 use Rattle.theory.proofs.HealingProved.{joined_arcs_are_the_arcs}
 use Rattle.theory.proofs.HealingWalks.{joined_apart, source}
 use Rattle.theory.proofs.Reversing.{Has-reverse, reverse-snoc}
-use Rattle.chains.specs.Among.{Tells}
-use Rattle.chains.specs.Arcs.{Arcs}
-use Rattle.chains.specs.Pieces.{chain_of, is_backwards_less, least_direction}
-use Rattle.chains.specs.Table.{AreLoopsOf, located, number_in}
-use Rattle.chains.specs.declared.cutting.Piece.{Piece}
+use Rattle.arcs.specs.Among.{Tells}
+use Rattle.arcs.specs.Arcs.{Arcs}
+use Rattle.arcs.specs.Pieces.{chain_of, is_backwards_less, least_direction}
+use Rattle.arcs.specs.Table.{AreLoopsOf, located, number_in}
+use Rattle.arcs.specs.declared.piece.Piece.{Piece}
 use Rattle.chains.proofs.AllChains.{is_less, least_first}
-use Rattle.chains.proofs.Marks.{all_marked}
-use Rattle.chains.specs.Turning.{least_place}
-use Rattle.chains.proofs.TurnedLists.{turned_at}
+use Rattle.arcs.proofs.Marks.{all_marked}
+use Rattle.arcs.specs.Turning.{least_place}
+use Rattle.arcs.proofs.TurnedLists.{turned_at}
 use Rattle.heal_arcs.specs.Choosing.{kept_numbers}
 use Rattle.heal_arcs.specs.HealedArcs.{begun_at, chain_by, directed, from_least, goes_round, is_there, list_by, list_of_run, piece_by, piece_of_run, put_all, run_along}
 use Rattle.heal_arcs.specs.PseudoNodes.{Begins, IsVerdict, partner_in}

@@ -11,7 +11,7 @@ use Rattle.lines.specs.ByVertex.{StandByVertex, count_at}
 use Rattle.lines.proofs.ByVertex.{behind_at, here_at}
 use Rattle.lines.proofs.Positions.{true_false}
 use Rattle.lines.proofs.SortedLists.{Has-permutation}
-use Rattle.chains.specs.Among.{among}
+use Rattle.arcs.specs.Among.{among}
 use Rattle.chains.proofs.Among.{among_has, has_among}
 use Rattle.heal_arcs.specs.ArcUseMap.{with_noted}
 use Rattle.heal_arcs.specs.declared.pseudo_nodes.ArcEnd.{ArcEnd}

@@ -16,7 +16,7 @@ use Rattle.theory.proofs.ArcNumbers.{taken_of, uses_along}
 use Rattle.theory.proofs.JunctionTest.{is_told, junction_told}
 use Rattle.theory.proofs.OneTopology.{along_chain}
 use Rattle.theory.proofs.HealingProved.{kept_arcs_tell, two_ends_meet}
-use Rattle.chains.specs.Arcs.{Arcs}
+use Rattle.arcs.specs.Arcs.{Arcs}
 use Rattle.heal_arcs.specs.Choosing.{kept_numbers}
 use Rattle.heal_arcs.specs.PseudoNodes.{ArePartners, Begins, IsVerdict, ThreeOf, partner_in}
 use Rattle.heal_arcs.specs.Healing.{IsLeftBy}

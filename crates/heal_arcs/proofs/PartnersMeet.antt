@@ -15,7 +15,7 @@ use Rattle.lines.specs.Positions.{position_total}
 use Rattle.lines.specs.Turned.{position_cmp}
 use Rattle.lines.proofs.Positions.{both_intro, both_true, true_false}
 use Rattle.lines.proofs.SortedLists.{Rises, Up, rises_from_sorted, up_from_rises}
-use Rattle.chains.proofs.Merged.{then_less}
+use Rattle.arcs.proofs.Merged.{then_less}
 use Rattle.heal_arcs.specs.ArcUseMap.{same_way}
 use Rattle.heal_arcs.specs.declared.pseudo_nodes.ArcEnd.{ArcEnd}
 use Rattle.heal_arcs.specs.PseudoNodes.{AreGrouped, Begins, all_ends, begin_at, end_at, end_if, ends_from, first_if, use_of, used_at}

@@ -10,9 +10,9 @@ use Rattle.theory.specs.ArcNumbers.{ArcRef}
 use Rattle.theory.specs.Arcs.{Ascends}
 use Rattle.theory.specs.Lists.{Has, Pairwise}
 use Rattle.theory.proofs.Ascending.{get_once, less_self}
-use Rattle.chains.specs.Table.{located, number_in}
-use Rattle.chains.specs.declared.cutting.Piece.{Piece}
-use Rattle.chains.proofs.Places.{place_of_member}
+use Rattle.arcs.specs.Table.{located, number_in}
+use Rattle.arcs.specs.declared.piece.Piece.{Piece}
+use Rattle.arcs.proofs.Places.{place_of_member}
 use Rattle.heal_arcs.specs.HealedArcs.{put_all}
 use Rattle.heal_arcs.proofs.WalkedRuns.{number_dec}
 

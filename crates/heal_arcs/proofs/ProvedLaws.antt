@@ -13,7 +13,7 @@ use Rattle.grid.specs.declared.pos.Pos.{Pos}
 use Rattle.lines.specs.Turned.{position_cmp}
 use Rattle.lines.specs.Positions.{position_total, position_same}
 use Rattle.lines.proofs.Positions.{position_dec}
-use Rattle.chains.specs.Arcs.{Arcs}
+use Rattle.arcs.specs.Arcs.{Arcs}
 use Rattle.heal_arcs.specs.Laws.{KeptStandOnce, OnePieces, OthersStandNowhere, StandsOnce}
 use Rattle.heal_arcs.specs.Parts.{RejoinedParts}
 use Rattle.heal_arcs.specs.Healing.{IsRejoinedOf}

@@ -21,7 +21,7 @@ use Rattle.theory.proofs.Reversing.{Has-unreverse, Steps-reverse, last_back, rev
 use Rattle.theory.proofs.ReplacedNumbers.{rotation_reverse}
 use Rattle.theory.proofs.Rotations.{rotation_ring, rotation_trans}
 use Rattle.theory.proofs.ValidMaps.{list_line, list_ring}
-use Rattle.chains.specs.Arcs.{Arcs}
+use Rattle.arcs.specs.Arcs.{Arcs}
 use Rattle.heal_arcs.specs.HealedArcs.{begun_at, directed, from_least, least_vertex, least_vertex_from, list_by, run_along, without_last}
 use Rattle.heal_arcs.specs.PseudoNodes.{partner_in}
 use Rattle.heal_arcs.specs.Healing.{IsLeftBy}

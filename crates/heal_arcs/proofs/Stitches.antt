@@ -13,7 +13,7 @@ use Rattle.theory.proofs.GroupedPieces.{uses_back, uses_parts}
 use Rattle.theory.proofs.Lists.{front-snoc, front_last, last_join}
 use Rattle.theory.proofs.Reversing.{reverse-last, reverse-snoc}
 use Rattle.theory.proofs.Stitching.{stitched_reverse}
-use Rattle.chains.specs.Arcs.{Arcs}
+use Rattle.arcs.specs.Arcs.{Arcs}
 use Rattle.heal_arcs.specs.HealedArcs.{on_along, positions_along, run_along, without_last}
 use Rattle.heal_arcs.specs.PseudoNodes.{partner_in}
 use Rattle.heal_arcs.specs.Healing.{IsLeftBy}

@@ -3,8 +3,8 @@ use Rattle.std.proofs.Common.{◌≡◌, ℕ, Bool, true, false, cond, List, [],
 use Rattle.std.specs.Option.{option_map}
 use Rattle.theory.specs.ArcNumbers.{ArcRef}
 use Rattle.grid.specs.declared.pos.Pos.{Pos}
-use Rattle.chains.specs.Pieces.{piece_along}
-use Rattle.chains.specs.declared.cutting.Piece.{Piece}
+use Rattle.arcs.specs.Pieces.{piece_along}
+use Rattle.arcs.specs.declared.piece.Piece.{Piece}
 use Rattle.heal_arcs.specs.HealedArcs.{piece_by, whole_arc}
 
 module _ (arcs : List (List Pos)) (p : Piece) where

@@ -6,8 +6,8 @@ use Rattle.theory.specs.LinesAndRings.{closed}
 use Rattle.theory.specs.Refinement.{turned_used}
 use Rattle.grid.specs.declared.pos.Pos.{Pos}
 use Rattle.lines.specs.Turned.{position_cmp}
-use Rattle.chains.specs.Pieces.{is_backwards_less, least_direction}
-use Rattle.chains.specs.declared.cutting.Piece.{Piece}
+use Rattle.arcs.specs.Pieces.{is_backwards_less, least_direction}
+use Rattle.arcs.specs.declared.piece.Piece.{Piece}
 
 -- the positions along a used arc; none where there is no arc
 abbrev pub positions_along : List (List Pos) → ArcRef → List Pos

@@ -6,8 +6,8 @@ use Rattle.theory.specs.Refinement.{IsPartOf, IsRefinementOf}
 use Rattle.theory.specs.Healing.{IsKept, IsLineEnd}
 use Rattle.grid.specs.declared.pos.Pos.{Pos}
 use Rattle.lines.specs.Turned.{position_cmp}
-use Rattle.chains.specs.Arcs.{Arcs}
-use Rattle.chains.specs.Table.{IsTableOf}
+use Rattle.arcs.specs.Arcs.{Arcs}
+use Rattle.arcs.specs.Table.{IsTableOf}
 use Rattle.heal_arcs.specs.Parts.{RejoinedParts}
 
 -- g is a part of the map u that the old table is of: the marks say which old arcs it uses, and the ends where its lines begin and end

@@ -5,7 +5,7 @@ use Rattle.theory.specs.ArcNumbers.{ArcRef, along}
 use Rattle.theory.specs.Lists.{Has}
 use Rattle.grid.specs.declared.pos.Pos.{Pos}
 use Rattle.lines.specs.Turned.{position_cmp}
-use Rattle.chains.specs.Among.{among}
+use Rattle.arcs.specs.Among.{among}
 use Rattle.heal_arcs.specs.ArcUseMap.{noted_of, with_noted}
 use Rattle.heal_arcs.specs.declared.pseudo_nodes.ArcEnd.{ArcEnd}
 use Rattle.heal_arcs.specs.declared.pseudo_nodes.PseudoNodes.{PseudoNodes}

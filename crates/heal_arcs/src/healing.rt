@@ -1,7 +1,7 @@
 //! Joining the arcs that are left of a table. Only the ends of arcs are looked at: they say which arc
 //! goes on from another, and walks along these give the runs that the new arcs are joined of.
-ghost use Rattle.chains.specs.Pieces.{chain_of};
-ghost use Rattle.chains.specs.Table.{AreLoopsOf, located};
+ghost use Rattle.arcs.specs.Pieces.{chain_of};
+ghost use Rattle.arcs.specs.Table.{AreLoopsOf, located};
 ghost use Rattle.grid.specs.declared.pos.Pos.{Pos};
 ghost use Rattle.heal_arcs.specs.HealedArcs.{put_all};
 ghost use Rattle.heal_arcs.specs.Healing.{IsLeftBy, IsRejoinedOf};

@@ -6,7 +6,7 @@ use Rattle.lines.specs.Turned.{position_cmp}
 use Rattle.theory.specs.ArcNumbers.{ArcRef}
 use Rattle.theory.specs.Refinement.{replaced}
 use Rattle.theory.specs.Healing.{rejoined, ring_rejoined}
-use Rattle.chains.specs.contracts.table.ArcRefPartialEq.TheImpl as ref_eq
+use Rattle.arcs.specs.contracts.table.ArcRefPartialEq.TheImpl as ref_eq
 use Rattle.heal_arcs.specs.Parts.{RejoinedParts}
 use Rattle.heal_arcs.specs.Starts.{starts_by}
 use Rattle.renumbering.specs.Rewritten.{geometry_rewritten, layer_rewritten}

@@ -7,11 +7,11 @@ use Rattle.lines.specs.Turned.{position_cmp}
 use Rattle.lines.specs.Positions.{position_total, position_same}
 use Rattle.lines.proofs.Positions.{position_dec}
 use Rattle.chains.specs.Along.{OnArcs, HasArcs, SidesFrom, SidesOf}
-use Rattle.chains.specs.Arcs.{Arcs}
+use Rattle.arcs.specs.Arcs.{Arcs}
 use Rattle.chains.specs.Joined.{AmongSegments, IsChainOver, SegmentsOf, StopAt}
 use Rattle.chains.specs.Seen.{geometry_of}
 use Rattle.chains.specs.Segments.{ends_of}
-use Rattle.chains.specs.Table.{IsTableOf}
+use Rattle.arcs.specs.Table.{IsTableOf}
 use Rattle.chains.specs.declared.segment.Segment.{Segment}
 use Rattle.chains.proofs.Among.{among_has, has_among}
 use Rattle.chains.proofs.ArcSegments.{segments_on}

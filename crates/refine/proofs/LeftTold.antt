@@ -7,7 +7,7 @@ use Rattle.lines.specs.Positions.{position_total, position_same}
 use Rattle.lines.specs.Turned.{position_cmp}
 use Rattle.lines.proofs.Positions.{position_dec}
 use Rattle.shapes.specs.Maps.{Layers}
-use Rattle.chains.specs.Arcs.{Arcs}
+use Rattle.arcs.specs.Arcs.{Arcs}
 use Rattle.chains.specs.Seen.{geometry_of, seen}
 use Rattle.chains.specs.Visits.{ends_of}
 use Rattle.chains.proofs.Gathered.{ends_has, has_ends}

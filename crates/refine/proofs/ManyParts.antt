@@ -11,11 +11,11 @@ use Rattle.lines.specs.Turned.{position_cmp}
 use Rattle.shapes.specs.Maps.{Features, Layers}
 use Rattle.shapes.specs.Sets as set
 use Rattle.shapes.specs.Union.{union}
-use Rattle.chains.specs.Arcs.{Arcs}
+use Rattle.arcs.specs.Arcs.{Arcs}
 use Rattle.chains.specs.ManyTables.{AreTablesOf, IsUnionOfAll}
 use Rattle.chains.specs.Seen as seen_by
 use Rattle.chains.specs.Seen.{geometry_of, seen}
-use Rattle.chains.specs.Table.{IsTableOf}
+use Rattle.arcs.specs.Table.{IsTableOf}
 use Rattle.theory.specs.Geometry.{Geometry, IsSound, JunctionOf}
 use Rattle.theory.specs.Lists.{Has, Pairwise, gathered}
 use Rattle.theory.specs.Refinement.{IsPartOf, IsRefinementOf}

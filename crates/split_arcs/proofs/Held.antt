@@ -7,12 +7,12 @@ use Rattle.theory.proofs.ListsOfLists.{gathered_from, map_has}
 use Rattle.grid.specs.declared.pos.Pos.{Pos}
 use Rattle.lines.specs.Holding.{Holds}
 use Rattle.lines.specs.Turned.{list_cmp}
-use Rattle.chains.specs.Arcs.{Arcs}
-use Rattle.chains.specs.Holding.{HoldAll}
-use Rattle.chains.specs.Pieces.{chain_of}
-use Rattle.chains.specs.Placing.{pieces_under, whole_pieces}
-use Rattle.chains.specs.VertexFilter.{whole}
-use Rattle.chains.specs.declared.cutting.Piece.{Piece}
+use Rattle.arcs.specs.Arcs.{Arcs}
+use Rattle.arcs.specs.Holding.{HoldAll}
+use Rattle.arcs.specs.Pieces.{chain_of}
+use Rattle.chains.specs.ArcPieces.{pieces_under}
+use Rattle.arcs.specs.Placing.{whole_pieces, whole}
+use Rattle.arcs.specs.declared.piece.Piece.{Piece}
 use Rattle.chains.proofs.PartsHeld.{under_has}
 use Rattle.split_arcs.specs.Cutting.{pieces_from, table_pieces}
 

@@ -8,14 +8,14 @@ use Rattle.theory.specs.Lists.{Has, gathered, joined}
 use Rattle.theory.proofs.ListsOfLists.{gathered_from, map_has}
 use Rattle.grid.specs.declared.pos.Pos.{Pos}
 use Rattle.lines.specs.Turned.{list_cmp}
-use Rattle.chains.specs.Arcs.{Arcs}
-use Rattle.chains.specs.Holding.{HoldAll}
+use Rattle.arcs.specs.Arcs.{Arcs}
+use Rattle.arcs.specs.Holding.{HoldAll}
 use Rattle.chains.specs.ManyTables.{UnmarkedStayWhole, arcs_of_all}
-use Rattle.chains.specs.Pieces.{chain_of}
-use Rattle.chains.specs.Placing.{pieces_under, whole_pieces}
-use Rattle.chains.specs.Table.{located}
-use Rattle.chains.specs.VertexFilter.{whole}
-use Rattle.chains.specs.declared.cutting.Piece.{Piece}
+use Rattle.arcs.specs.Pieces.{chain_of}
+use Rattle.chains.specs.ArcPieces.{pieces_under}
+use Rattle.arcs.specs.Placing.{whole_pieces, whole}
+use Rattle.arcs.specs.Table.{located}
+use Rattle.arcs.specs.declared.piece.Piece.{Piece}
 use Rattle.split_arcs.specs.Bounds.{bounds_of, list_at, parts_between}
 use Rattle.split_arcs.specs.Cutting.{arc_used, pieces_from}
 use Rattle.split_arcs.proofs.Bounds.{between_again}

@@ -11,16 +11,17 @@ use Rattle.grid.specs.declared.pos.Pos.{Pos}
 use Rattle.lines.specs.Turned.{position_cmp, list_cmp}
 use Rattle.lines.specs.Positions.{position_total, position_same}
 use Rattle.lines.proofs.Positions.{position_dec}
-use Rattle.chains.specs.Among.{among}
-use Rattle.chains.specs.ArcPieces.{pieces_at}
-use Rattle.chains.specs.Arcs.{Arcs}
+use Rattle.arcs.specs.Among.{among}
+use Rattle.chains.specs.ArcPieces.{pieces_at, pieces_under}
+use Rattle.arcs.specs.Arcs.{Arcs}
 use Rattle.chains.specs.Index.{IsIndexOf}
 use Rattle.chains.specs.ManyTables.{AreTablesOf, IsUnionOfAll, all_as_map, arcs_of_all, lines_of_table, rings_of_table}
 use Rattle.chains.specs.OfArcs.{open_in, loops_in}
-use Rattle.chains.specs.Pieces.{chain_of, line_pieces, ring_pieces}
-use Rattle.chains.specs.Placing.{pieces_under, whole_pieces}
-use Rattle.chains.specs.Table.{is_loop, located, ArePiecesOfMap, IsTableOf}
-use Rattle.chains.specs.declared.cutting.Piece.{Piece}
+use Rattle.arcs.specs.Pieces.{chain_of}
+use Rattle.chains.specs.Pieces.{line_pieces, ring_pieces}
+use Rattle.arcs.specs.Placing.{whole_pieces}
+use Rattle.arcs.specs.Table.{is_loop, located, ArePiecesOfMap, IsTableOf}
+use Rattle.arcs.specs.declared.piece.Piece.{Piece}
 use Rattle.chains.proofs.ArcsAtStops.{loop_as_ring}
 use Rattle.chains.proofs.ArcsCut.{table_alike}
 use Rattle.chains.proofs.ManyAlike.{all_alike, all_sound}

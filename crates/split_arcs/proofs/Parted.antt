@@ -6,12 +6,12 @@ use Rattle.std.proofs.Math.Seq.{drop-append_seam, take-append_seam}
 use Rattle.theory.specs.ArcNumbers.{ArcRef}
 use Rattle.theory.specs.Lists.{gathered, joined}
 use Rattle.grid.specs.declared.pos.Pos.{Pos}
-use Rattle.chains.specs.Arcs.{Arcs}
+use Rattle.arcs.specs.Arcs.{Arcs}
 use Rattle.chains.specs.OfArcs.{arc_pieces}
-use Rattle.chains.specs.Placing.{whole_pieces}
-use Rattle.chains.specs.VertexFilter.{StayWhole, whole}
-use Rattle.chains.specs.Table.{located}
-use Rattle.chains.specs.declared.cutting.Piece.{Piece}
+use Rattle.arcs.specs.Placing.{whole_pieces, whole}
+use Rattle.chains.specs.VertexFilter.{StayWhole}
+use Rattle.arcs.specs.Table.{located}
+use Rattle.arcs.specs.declared.piece.Piece.{Piece}
 use Rattle.split_arcs.specs.Bounds.{bounds_of, parts_between}
 use Rattle.split_arcs.specs.Cutting.{arc_used, pieces_from, table_pieces}
 use Rattle.split_arcs.specs.Parts.{RecutParts}

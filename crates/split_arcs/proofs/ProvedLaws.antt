@@ -10,7 +10,7 @@ use Rattle.theory.proofs.ProvedLaws as law
 use Rattle.theory.proofs.RefinementLaws.{pieces_unique}
 use Rattle.grid.specs.declared.pos.Pos.{Pos}
 use Rattle.lines.specs.Turned.{position_cmp}
-use Rattle.chains.specs.Arcs.{Arcs}
+use Rattle.arcs.specs.Arcs.{Arcs}
 use Rattle.lines.specs.Positions.{position_total, position_same}
 use Rattle.lines.proofs.Positions.{position_dec}
 use Rattle.chains.proofs.TablesAsMap.{union_sound}

@@ -10,14 +10,15 @@ use Rattle.theory.proofs.Lists.{Has-append, Has-append_left, Has-append_right}
 use Rattle.theory.proofs.ListsOfLists.{Has-gathered, gathered_from, Pairwise-map}
 use Rattle.grid.specs.declared.pos.Pos.{Pos}
 use Rattle.lines.specs.Turned.{position_cmp, list_cmp}
-use Rattle.chains.specs.Among.{among}
+use Rattle.arcs.specs.Among.{among}
 use Rattle.chains.specs.ArcPieces.{loop_pieces, pieces_at}
-use Rattle.chains.specs.Arcs.{Arcs}
+use Rattle.arcs.specs.Arcs.{Arcs}
 use Rattle.chains.specs.Index.{IsIndexOf}
 use Rattle.chains.specs.OfArcs.{open_in, loops_in, tables_as_map, arc_pieces}
-use Rattle.chains.specs.Pieces.{chain_of, line_pieces, ring_pieces}
-use Rattle.chains.specs.Table.{is_loop, located, ArePiecesOfMap, IsTableOf}
-use Rattle.chains.specs.declared.cutting.Piece.{Piece}
+use Rattle.arcs.specs.Pieces.{chain_of}
+use Rattle.chains.specs.Pieces.{line_pieces, ring_pieces}
+use Rattle.arcs.specs.Table.{is_loop, located, ArePiecesOfMap, IsTableOf}
+use Rattle.arcs.specs.declared.piece.Piece.{Piece}
 use Rattle.chains.proofs.ArcsAtStops.{loop_as_ring}
 use Rattle.chains.proofs.ArcsCut.{table_alike}
 use Rattle.lines.specs.Positions.{position_total, position_same}

@@ -6,11 +6,12 @@ use Rattle.theory.specs.Lists.{joined}
 use Rattle.theory.specs.Refinement.{IsRefinementOf}
 use Rattle.grid.specs.declared.pos.Pos.{Pos}
 use Rattle.lines.specs.Turned.{position_cmp}
-use Rattle.chains.specs.Arcs.{Arcs}
+use Rattle.arcs.specs.Arcs.{Arcs}
 use Rattle.chains.specs.OfArcs.{arc_pieces}
-use Rattle.chains.specs.Placing.{pieces_under, whole_pieces}
-use Rattle.chains.specs.Table.{located, IsTableOf}
-use Rattle.chains.specs.declared.cutting.Piece.{Piece}
+use Rattle.chains.specs.ArcPieces.{pieces_under}
+use Rattle.arcs.specs.Placing.{whole_pieces}
+use Rattle.arcs.specs.Table.{located, IsTableOf}
+use Rattle.arcs.specs.declared.piece.Piece.{Piece}
 use Rattle.split_arcs.specs.Parts.{RecutParts}
 
 -- the new arcs of an old one, where these are the junctions: its pieces

@@ -4,8 +4,8 @@ use Rattle.theory.specs.Geometry.{Geometry}
 use Rattle.theory.specs.Refinement.{IsRefinementOf}
 use Rattle.grid.specs.declared.pos.Pos.{Pos}
 use Rattle.lines.specs.Turned.{position_cmp}
-use Rattle.chains.specs.Arcs.{Arcs}
-use Rattle.chains.specs.Table.{IsTableOf}
+use Rattle.arcs.specs.Arcs.{Arcs}
+use Rattle.arcs.specs.Table.{IsTableOf}
 use Rattle.split_arcs.specs.PartsOfAll.{RecutAllParts, of_table}
 
 -- the table is that of u, which the maps make together, and the arcs of each map's table are cut into its arcs

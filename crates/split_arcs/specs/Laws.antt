@@ -6,7 +6,7 @@ use Rattle.theory.specs.Lists.{Beside}
 use Rattle.theory.specs.Refinement.{ArePiecesOfArc, IsUnionOf, pieces_at}
 use Rattle.grid.specs.declared.pos.Pos.{Pos}
 use Rattle.lines.specs.Turned.{position_cmp}
-use Rattle.chains.specs.Arcs.{Arcs}
+use Rattle.arcs.specs.Arcs.{Arcs}
 use Rattle.split_arcs.specs.Cutting.{IsRecutOf}
 use Rattle.split_arcs.specs.Parts.{RecutParts}
 

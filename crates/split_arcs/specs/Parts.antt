@@ -1,7 +1,7 @@
 -- What two tables are cut into, as contracts see it.
 use Rattle.std.specs.Prelude.{List}
 use Rattle.theory.specs.ArcNumbers.{ArcRef}
-use Rattle.chains.specs.Arcs.{Arcs}
+use Rattle.arcs.specs.Arcs.{Arcs}
 use Rattle.split_arcs.specs.declared.split_lists.Side as sides
 use Rattle.split_arcs.specs.declared.split_lists.Side.TheVariants as of
 

@@ -1,7 +1,7 @@
 -- What many tables are cut into, as contracts see it.
 use Rattle.std.specs.Prelude.{ℕ, List, Option, Some, None, slice_get}
 use Rattle.theory.specs.ArcNumbers.{ArcRef}
-use Rattle.chains.specs.Arcs.{Arcs}
+use Rattle.arcs.specs.Arcs.{Arcs}
 use Rattle.split_arcs.specs.Bounds.{list_at}
 
 -- the new table, and for each old table the pieces of each of its arcs

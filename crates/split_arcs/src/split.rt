@@ -1,7 +1,7 @@
 //! Cutting the arcs of two tables again: the index of visits over the arcs gives the junctions of
 //! both maps together, all arcs are cut there, and the pieces are the new table.
-ghost use Rattle.chains.specs.Placing.{whole_pieces};
-ghost use Rattle.chains.specs.Table.{IsTableOf};
+ghost use Rattle.arcs.specs.Placing.{whole_pieces};
+ghost use Rattle.arcs.specs.Table.{IsTableOf};
 ghost use Rattle.grid.specs.declared.pos.Pos.{Pos};
 ghost use Rattle.split_arcs.specs.Bounds.{AreBounds, bounds_of, parts_between};
 ghost use Rattle.split_arcs.specs.Cutting.{pieces_from, table_pieces, IsRecutOf};

@@ -1,7 +1,7 @@
 //! Cutting the arcs of many tables again at once: the index of visits over all arcs gives the junctions of
 //! all maps together, all arcs are cut there, and the pieces are the new table.
+ghost use Rattle.arcs.specs.Placing.{whole_pieces};
 ghost use Rattle.chains.specs.ManyTables.{AreTablesOf, IsUnionOfAll, arcs_of_all};
-ghost use Rattle.chains.specs.Placing.{whole_pieces};
 ghost use Rattle.grid.specs.declared.pos.Pos.{Pos};
 ghost use Rattle.lines.specs.Turned.{position_cmp};
 ghost use Rattle.split_arcs.specs.Bounds.{bounds_of, list_at, parts_between};

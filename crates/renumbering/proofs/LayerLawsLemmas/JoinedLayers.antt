@@ -10,10 +10,10 @@ use Rattle.shapes.specs.Parts.{spelled_text}
 use Rattle.shapes.specs.Sets as set
 use Rattle.shapes.specs.Union.{union}
 use Rattle.shapes.specs.declared.feature.Feature.{Feature}
-use Rattle.chains.specs.Arcs.{Arcs}
+use Rattle.arcs.specs.Arcs.{Arcs}
 use Rattle.chains.specs.Seen as seen_by
 use Rattle.chains.specs.Seen.{geometry_of, seen}
-use Rattle.chains.specs.Table.{IsTableOf}
+use Rattle.arcs.specs.Table.{IsTableOf}
 use Rattle.theory.specs.ArcNumbers.{ArcRef}
 use Rattle.theory.specs.Geometry.{JunctionOf}
 use Rattle.theory.specs.Lists.{Pairwise}

@@ -1,5 +1,5 @@
 use Rattle.std.proofs.Common.{◌≡◌, ◌∙◌, [], ap, sym}
-use Rattle.chains.proofs.Merged.{emptied}
+use Rattle.arcs.proofs.Merged.{emptied}
 use Rattle.heal_arcs.specs.HealedArcs.{put_all}
 use Rattle.heal_arcs.proofs.Heals.{put_none}
 use Rattle.heal_arcs.proofs.healed_arcs.by_numbers.Goals as goal

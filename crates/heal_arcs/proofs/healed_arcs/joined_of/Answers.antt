@@ -1,6 +1,6 @@
 use Rattle.std.proofs.Common.{◌≡◌, ◌++◌, ◌∙◌, [], ap, map, sym}
 use Rattle.std.proofs.lemmas.List.{append-nil}
-use Rattle.chains.proofs.Merged.{emptied}
+use Rattle.arcs.proofs.Merged.{emptied}
 use Rattle.heal_arcs.specs.HealedArcs.{list_of_run, piece_of_run}
 use Rattle.heal_arcs.specs.PseudoNodes.{partner_in}
 use Rattle.heal_arcs.proofs.healed_arcs.joined_of.Goals as goal

@@ -1,8 +1,8 @@
 use Rattle.std.proofs.Common.{◌∙◌, [], ap, length, map, replicate, subst, sym}
 use Rattle.theory.specs.Arcs.{AreSortedOnce}
 use Rattle.lines.specs.Turned.{list_cmp}
-use Rattle.chains.specs.Pieces.{chain_of}
-use Rattle.chains.specs.Table.{AreLoopsOf, located}
+use Rattle.arcs.specs.Pieces.{chain_of}
+use Rattle.arcs.specs.Table.{AreLoopsOf, located}
 use Rattle.heal_arcs.specs.HealedArcs.{put_all}
 use Rattle.heal_arcs.specs.Parts.{RejoinedParts}
 use Rattle.heal_arcs.proofs.healing.from_joined.Goals as goal

@@ -1,5 +1,5 @@
 use Rattle.std.proofs.Common.{map, refl}
-use Rattle.chains.specs.Table.{located}
+use Rattle.arcs.specs.Table.{located}
 use Rattle.heal_arcs.proofs.Heals.{rejoin_is}
 use Rattle.heal_arcs.proofs.healing.heal.Goals as goal
 

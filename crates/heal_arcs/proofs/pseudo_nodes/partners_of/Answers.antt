@@ -1,4 +1,4 @@
-use Rattle.chains.proofs.Merged.{emptied}
+use Rattle.arcs.proofs.Merged.{emptied}
 use Rattle.heal_arcs.specs.ArcUseMap.{noted_of}
 use Rattle.heal_arcs.proofs.Pairing.{pairing_over, pairing_starts, pairing_step}
 use Rattle.heal_arcs.proofs.pseudo_nodes.partners_of.Goals as goal

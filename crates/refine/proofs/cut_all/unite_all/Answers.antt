@@ -1,6 +1,6 @@
 use Rattle.std.proofs.Common.{subst, sym}
 use Rattle.theory.specs.Lists.{Pairwise}
-use Rattle.chains.specs.Table.{IsTableOf}
+use Rattle.arcs.specs.Table.{IsTableOf}
 use Rattle.chains.specs.Seen.{geometry_of}
 use Rattle.merging.specs.Plans.{union_all}
 use Rattle.renumbering.specs.GeometryOrder.Noded.{AreNoded}

@@ -2,8 +2,8 @@ use Rattle.std.proofs.Common.{IfOk, subst}
 use Rattle.grid.specs.declared.pos.Pos.{Pos}
 use Rattle.theory.specs.Geometry.{Geometry, IsSound}
 use Rattle.theory.specs.Refinement.{IsUnionOf}
-use Rattle.chains.specs.Arcs.{Arcs}
-use Rattle.chains.specs.Table.{IsTableOf}
+use Rattle.arcs.specs.Arcs.{Arcs}
+use Rattle.arcs.specs.Table.{IsTableOf}
 use Rattle.split_arcs.specs.Cutting.{IsRecutOf}
 use Rattle.split_arcs.specs.Parts.{RecutParts}
 use Rattle.split_arcs.proofs.split.recut.Goals as goal

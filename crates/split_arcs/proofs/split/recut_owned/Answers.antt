@@ -1,7 +1,7 @@
 use Rattle.std.proofs.Common.{◌∙◌, ap, drop, take}
-use Rattle.chains.specs.Extents.{within}
-use Rattle.chains.specs.Table.{located}
-use Rattle.chains.specs.Placing.{whole_pieces}
+use Rattle.arcs.specs.Extents.{within}
+use Rattle.arcs.specs.Table.{located}
+use Rattle.arcs.specs.Placing.{whole_pieces}
 use Rattle.split_arcs.specs.Bounds.{parts_between}
 use Rattle.split_arcs.specs.Cutting.{pieces_from, table_pieces}
 use Rattle.split_arcs.proofs.Bounds.{bounds_are}

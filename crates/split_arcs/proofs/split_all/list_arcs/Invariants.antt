@@ -1,6 +1,6 @@
 use Rattle.std.proofs.Common.{◌≡◌, ◌++◌, length, map}
 use Rattle.theory.specs.Lists.{gathered}
-use Rattle.chains.specs.Placing.{whole_pieces}
+use Rattle.arcs.specs.Placing.{whole_pieces}
 use Rattle.split_arcs.specs.Bounds.{bounds_of, ends_from}
 use Rattle.split_arcs.proofs.split_all.list_arcs.Given as goal
 

@@ -1,8 +1,8 @@
 use Rattle.std.proofs.Common.{◌≡◌, ◌++◌, ◌∙◌, ap, map, subst, sym}
 use Rattle.theory.specs.Lists.{Has, joined}
-use Rattle.chains.specs.Extents.{within}
+use Rattle.arcs.specs.Extents.{within}
 use Rattle.chains.specs.ManyTables.{UnmarkedStayWhole, arcs_of_all}
-use Rattle.chains.specs.Table.{located}
+use Rattle.arcs.specs.Table.{located}
 use Rattle.split_arcs.specs.Bounds.{list_at, parts_between}
 use Rattle.split_arcs.specs.Cutting.{pieces_from}
 use Rattle.split_arcs.proofs.Bounds.{bounds_are}
