@@ -34,7 +34,7 @@ import refusing
 from refusing import TOP
 
 CRATES = ["grid", "faults", "sinks", "lines", "shapes", "geojson_io", "arcs", "chains", "topo", "topo_io", "query", "refine", "merging",
-          "split_arcs", "heal_arcs", "difference_text", "fault_reports", "outputs", "tool"]
+          "split_heal", "difference_text", "fault_reports", "outputs", "tool"]
 REFUSED = "refused_memory"
 GROUPS = ["parts", "arcs", "maps", "edits"]
 WITHOUT = "without_memory"
@@ -44,14 +44,14 @@ NO_REQUEST = "is passed an allocator and asks it for nothing"
 JUDGED = "has a condition, which its caller knows: "
 NO_GROWTH = {"Fault::here": NO_REQUEST, "FeatureMap::new": NO_REQUEST, "Kept::new": NO_REQUEST, "Script::new": NO_REQUEST}
 EXCEPTIONS = {
-    "ArcTable::with_extent": JUDGED + "split_arcs::recut",
+    "ArcTable::with_extent": JUDGED + "split_heal::recut",
     "Become::make": "is what Form::try_map calls",
     "JoinMany::join_many": JUDGED + "merging::merge_all_by",
     "merging::join_all": JUDGED + "merging::merge_all",
-    "Extent::around_all": "is what split_arcs::recut_all calls",
-    "Extent::around": "is what split_arcs::recut calls",
-    "Extent::has": "is what split_arcs::recut calls",
-    "Extent::widen_by": "is what split_arcs::recut calls",
+    "Extent::around_all": "is what split_heal::recut_all calls",
+    "Extent::around": "is what split_heal::recut calls",
+    "Extent::has": "is what split_heal::recut calls",
+    "Extent::widen_by": "is what split_heal::recut calls",
     "Topology::feature": JUDGED + "query::feature",
     "Topology::features": JUDGED + "query::feature",
     "topo::feature": JUDGED + "query::feature",
@@ -75,7 +75,7 @@ MODULES = {
     "topo_io::reader::position": "has parts of topo_io::read",
     "topo_io::reader::transform": "has parts of topo_io::read",
 }
-LAWS = "laws"  # Modules of functions that have no answer: their contracts are what they are for.
+LAWS = "laws"  # How names of modules end that are of functions that have no answer: their contracts are what they are for.
 
 FULL_NAME = re.compile(r'"(\w+::\w+)\b[^"]*"')
 COUNTS = re.compile(rb"calls (\d+), (\d+) without memory, refused (\d+), wrong 0\n")
@@ -93,7 +93,7 @@ def calls():
             module = "::".join([crate, *path])
             if module in MODULES:
                 left_out.add(module)
-            elif path[-1:] != (LAWS,):
+            elif not path or not path[-1].endswith(LAWS):
                 found[f"{owner or crate}::{name}"] = bool(MEMORY.search(modules[path].functions[owner, name]))
     return found, left_out
 

@@ -18,7 +18,7 @@ import sys
 
 TOP = os.path.dirname(os.path.dirname(os.path.abspath(__file__)))
 NAMED = {"refine": ["cut.rt", "cut_all.rt", "remove.rt"], "topo": ["stitching.rt", "order.rt"]}
-WHOLE = ["renumbering", "split_arcs", "heal_arcs"]
+WHOLE = ["renumbering", "split_heal"]
 
 CALLS = "expand|build|from_map|cut_line|cut_ring"
 MAKES = re.compile(rf"\b({CALLS})\s*(::<[^>]*>)?\s*\(|::\s*({CALLS})\b|\bVisitIndex::of\b|[{{,]\s*({CALLS})\s*[,}}]")
@@ -36,8 +36,8 @@ WALKS = [
     ("renumbering/src/rewritten.rt", "    Topology::build(alloc, left.grid(), &both)"),
     ("renumbering/src/new_lists.rt", "use topo::building::build as made;"),
     ("renumbering/src/new_lists.rt", "use chains::{ArcRef, cut_line, cut_ring};"),
-    ("split_arcs/src/split.rt", "    let cuts = VisitIndex::of(alloc, &map)?;"),
-    ("heal_arcs/src/healing.rt", "    cut_ring(alloc, &index, ring)"),
+    ("split_heal/src/split.rt", "    let cuts = VisitIndex::of(alloc, &map)?;"),
+    ("split_heal/src/healing.rt", "    cut_ring(alloc, &index, ring)"),
     ("topo/src/stitching.rt", "    topology.expand(alloc)"),
     ("topo/src/order.rt", "    from_map(alloc, grid, map)"),
 ]

@@ -29,8 +29,8 @@ use Rattle.theory.specs.Geometry.{Geometry, IsSound, JunctionOf}
 use Rattle.theory.specs.Lists.{Has, Pairwise}
 use Rattle.theory.proofs.ListsOfLists.{get_has, has_get}
 use Rattle.theory.specs.Refinement.{IsUnionOf}
-use Rattle.split_arcs.specs.Cutting.{IsRecutOf}
-use Rattle.split_arcs.specs.Parts.{RecutParts}
+use Rattle.split_heal.specs.Cutting.{IsRecutOf}
+use Rattle.split_heal.specs.SplitParts.{RecutParts}
 use Rattle.topo.specs.OfMap.{IsOf}
 use Rattle.topo.specs.Parts.{LayerParts, TopologyParts}
 use Rattle.topo.specs.declared.geom.Geom.{Geom}

@@ -7,7 +7,7 @@ ghost use Rattle.compare.specs.Placed.{IsDifferenceAt};
 ghost use Rattle.compare.specs.declared.fault.CompareFault.TheVariants.{OtherGrid};
 ghost use Rattle.renumbering.specs.LayerLaws.CutLayers.{layer_recut};
 ghost use Rattle.renumbering.specs.LayerLaws.Cuts as cuts;
-ghost use Rattle.split_arcs.specs.Parts.{of_side};
+ghost use Rattle.split_heal.specs.SplitParts.{of_side};
 ghost use Rattle.shapes.specs.Maps.{Layers, features_at};
 ghost use Rattle.shapes.specs.Sets as set;
 ghost use Rattle.shapes.specs.declared.shape.Id.{Id};
@@ -22,7 +22,7 @@ use crate::property::keys_of;
 use chains::table::{ArcRef, ArcTable};
 use faults::OutOfMemory;
 use renumbering::{NewLists, layers_rewritten};
-use split_arcs::{Recut, Side, recut_owned};
+use split_heal::{Recut, Side, recut_owned};
 use std::alloc::{AllocError, Global};
 use topo::{Geom, Layer, Topology};
 

@@ -16,7 +16,7 @@ use Rattle.theory.specs.ArcNumbers.{ArcRef, StitchTo, along}
 use Rattle.theory.specs.LinesAndRings.{IsRotation, closed}
 use Rattle.theory.specs.Lists.{Pairwise}
 use Rattle.theory.specs.Refinement.{replaced}
-use Rattle.heal_arcs.specs.Parts.{RejoinedParts}
+use Rattle.split_heal.specs.HealedParts.{RejoinedParts}
 use Rattle.topo.specs.Features.{IsLineOf, IsRingOf, IsShapeOf}
 use Rattle.topo.specs.Parts.{LayerParts}
 use Rattle.topo.specs.Bodies as bodies

@@ -17,8 +17,8 @@ use Rattle.chains.proofs.Among.{among_has, has_among}
 use Rattle.chains.proofs.ArcSegments.{segments_on}
 use Rattle.chains.proofs.Siding.{on_arc, sides_beside}
 use Rattle.chains.proofs.TablesAsMap.{union_sound}
-use Rattle.heal_arcs.specs.Healing.{IsLeftBy, IsRejoinedOf}
-use Rattle.heal_arcs.specs.Parts.{RejoinedParts}
+use Rattle.split_heal.specs.Healing.{IsLeftBy, IsRejoinedOf}
+use Rattle.split_heal.specs.HealedParts.{RejoinedParts}
 use Rattle.theory.proofs.ArcNumbers.{taken_of, uses_along}
 use Rattle.theory.proofs.ArcsAsMap.{arcs_same, three_map}
 use Rattle.theory.proofs.Chains.{IsChain-same}

@@ -26,8 +26,8 @@ use Rattle.theory.specs.Lists.{Pairwise}
 use Rattle.theory.specs.Refinement.{IsUnionOf}
 use Rattle.renumbering.proofs.GeometryOrderLemmas.NodedTables.{table_noded}
 use Rattle.renumbering.specs.GeometryOrder.Noded.{AreNoded}
-use Rattle.split_arcs.specs.Cutting.{IsRecutOf}
-use Rattle.split_arcs.specs.Parts.{RecutParts}
+use Rattle.split_heal.specs.Cutting.{IsRecutOf}
+use Rattle.split_heal.specs.SplitParts.{RecutParts}
 use Rattle.topo.specs.Features.{HasFeature, IsFeatureOf}
 use Rattle.topo.specs.GeometryOrder.{HaveFeatures, LayersHaveFeatures, geometry_cmp}
 use Rattle.topo.specs.OfMap.{IsOf}

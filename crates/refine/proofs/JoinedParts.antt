@@ -15,8 +15,8 @@ use Rattle.theory.specs.Refinement.{IsUnionOf}
 use Rattle.theory.specs.Topology.{IsLayerOf}
 use Rattle.renumbering.proofs.GeometryOrderLemmas.NodedTables.{table_noded}
 use Rattle.renumbering.specs.GeometryOrder.Noded.{AreNoded}
-use Rattle.split_arcs.specs.Cutting.{IsRecutOf}
-use Rattle.split_arcs.specs.Parts.{RecutParts}
+use Rattle.split_heal.specs.Cutting.{IsRecutOf}
+use Rattle.split_heal.specs.SplitParts.{RecutParts}
 use Rattle.topo.specs.OfMap.{ArePartsOf, IsOf, layer_of}
 use Rattle.topo.specs.Parts.{LayerParts, TopologyParts}
 use Rattle.topo.proofs.Sound.{are_sound}

@@ -30,10 +30,10 @@ use Rattle.theory.proofs.HealingKept.{list_ends}
 use Rattle.theory.proofs.HealingLists.{starts_once}
 use Rattle.theory.proofs.ValidMaps.{ends_list}
 use Rattle.theory.proofs.UsersOfArcs.{line_partner_back, partner_back}
-use Rattle.heal_arcs.specs.Parts.{RejoinedParts}
-use Rattle.heal_arcs.specs.Healing.{IsLeftBy, IsRejoinedOf}
-use Rattle.heal_arcs.specs.Starts.{starts_by}
-use Rattle.heal_arcs.proofs.Begun.{starts_are}
+use Rattle.split_heal.specs.HealedParts.{RejoinedParts}
+use Rattle.split_heal.specs.Healing.{IsLeftBy, IsRejoinedOf}
+use Rattle.split_heal.specs.Starts.{starts_by}
+use Rattle.split_heal.proofs.Begun.{starts_are}
 use Rattle.topo.specs.BodyLists.{body_lines, body_lists}
 use Rattle.topo.specs.OfMap.{ArePartsOf, IsOf, body_of, item_of, layer_of}
 use Rattle.topo.specs.Parts.{LayerParts, TopologyParts}

@@ -32,8 +32,8 @@ use Rattle.renumbering.proofs.LayerLawsLemmas.JoinedPairs.{cut_layers, layers_ha
 use Rattle.renumbering.proofs.LayerLawsLemmas.MergedLayers.{entries_of_union}
 use Rattle.renumbering.proofs.LayerLawsLemmas.RecutGeometries.{layers_after_recut}
 use Rattle.renumbering.proofs.LayerLawsLemmas.UnitedGeometry.{geometries_unite}
-use Rattle.split_arcs.specs.CuttingAll.{IsRecutOfAll}
-use Rattle.split_arcs.specs.PartsOfAll.{RecutAllParts, of_table}
+use Rattle.split_heal.specs.CuttingAll.{IsRecutOfAll}
+use Rattle.split_heal.specs.PartsOfAll.{RecutAllParts, of_table}
 use Rattle.topo.specs.GeometryOrder.{LayersHaveFeatures}
 use Rattle.topo.specs.OfMap.{ArePartsOf, IsOf, item_of, layer_of}
 use Rattle.topo.specs.Parts.{LayerParts, TopologyParts}

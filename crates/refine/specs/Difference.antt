@@ -2,7 +2,7 @@
 use Rattle.std.specs.Prelude.{List, [], ◌∷◌, Option, Some, None}
 use Rattle.std.specs.List.{AllByRecursion}
 use Rattle.std.specs.declared.cmp.Ordering.{Ordering}
-use Rattle.split_arcs.specs.Parts.{RecutParts}
+use Rattle.split_heal.specs.SplitParts.{RecutParts}
 use Rattle.topo.specs.Features.{HasFeature}
 use Rattle.topo.specs.GeometryOrder.{geometry_cmp}
 use Rattle.topo.specs.Parts.{LayerParts}

@@ -6,7 +6,7 @@ ghost use Rattle.renumbering.specs.LayerLaws.CutLayers.{before, behind, layer_cm
 ghost use Rattle.renumbering.specs.LayerLaws.Cuts as cuts;
 ghost use Rattle.renumbering.specs.LayerLaws.ItsMap.{ItsMap, ItsMap-prop};
 ghost use Rattle.merging.specs.declared.fault.JoinFault.TheVariants.{OtherGrid};
-ghost use Rattle.split_arcs.specs.Parts.{of_side};
+ghost use Rattle.split_heal.specs.SplitParts.{of_side};
 ghost use Rattle.shapes.specs.Maps.{Layers};
 ghost use Rattle.shapes.specs.Union.{union};
 ghost use Rattle.std.specs.Prelude.{◌≡◌, ◌↔◌, ◌<◌, ◌^◌, ◌++◌, length, IfOk, IfSome, IsErrOf, OnOk, Option, None, true, take, drop, map as map_list};
@@ -20,7 +20,7 @@ use chains::table::{ArcRef, ArcTable};
 use faults::OutOfMemory;
 use renumbering::geometry_order::GeometryOrder;
 use renumbering::{NewLists, layers_rewritten};
-use split_arcs::{Recut, Side, recut_owned};
+use split_heal::{Recut, Side, recut_owned};
 use std::alloc::Global;
 use std::cmp::Ordering;
 use std::collections::VecDeque;

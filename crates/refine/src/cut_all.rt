@@ -7,7 +7,7 @@ ghost use Rattle.refine.specs.ManyLayers.{ArePartsOfAll, AreLayersOf, are_on, la
 ghost use Rattle.renumbering.specs.GeometryOrder.Noded.{AreNoded};
 ghost use Rattle.renumbering.specs.LayerLaws.Cuts as cuts;
 ghost use Rattle.shapes.specs.Maps.{Layers};
-ghost use Rattle.split_arcs.specs.PartsOfAll.{of_table};
+ghost use Rattle.split_heal.specs.PartsOfAll.{of_table};
 ghost use Rattle.std.specs.Prelude.{◌≡◌, ◌<◌, ◌^◌, All, IfOk, IsOkUnless, List, length};
 ghost use Rattle.theory.specs.Lists.{Pairwise};
 ghost use Rattle.topo.specs.OfMap.{IsOf};
@@ -20,7 +20,7 @@ use grid::transform::Grid;
 use merging::shard::same_grid;
 use merging::{JoinMany, join_all};
 use renumbering::{NewLists, layers_rewritten};
-use split_arcs::{RecutAll, recut_all};
+use split_heal::{RecutAll, recut_all};
 use std::alloc::Global;
 use std::collections::VecDeque;
 use topo::{Layer, Topology};

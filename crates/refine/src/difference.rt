@@ -18,7 +18,7 @@ use chains::ArcTable;
 use faults::OutOfMemory;
 use renumbering::copy_rewritten;
 use renumbering::geometry_order::GeometryOrder;
-use split_arcs::{Recut, Side, recut_owned};
+use split_heal::{Recut, Side, recut_owned};
 use std::alloc::Global;
 use std::cmp::Ordering;
 use std::collections::VecDeque;
