@@ -35,14 +35,14 @@ use Rattle.topo.specs.OfMap.{IsOf}
 use Rattle.topo.specs.Parts.{LayerParts, TopologyParts}
 use Rattle.topo.specs.declared.geom.Geom.{Geom}
 use Rattle.topo.proofs.Sound.{are_sound}
-use Rattle.renumbering.specs.LayerLaws.CutLaws.{IsListedFor}
-use Rattle.renumbering.specs.LayerLaws.CutLayers.{layer_recut}
-use Rattle.renumbering.proofs.LayerLawsLemmas.Ascending.{keys_ascend}
-use Rattle.renumbering.proofs.LayerLawsLemmas.EqualLists.{equal_features_equal_lists}
-use Rattle.renumbering.proofs.LayerLawsLemmas.JoinedLayers.{IsJoinedLayer}
-use Rattle.renumbering.proofs.LayerLawsLemmas.JoinedPairs.{cut_layers}
-use Rattle.renumbering.proofs.LayerLawsLemmas.RecutGeometries.{layers_after_recut}
-use Rattle.renumbering.proofs.LayerLawsLemmas.UnitedGeometry.{geometries_unite}
+use Rattle.topo.specs.LayerLaws.CutLaws.{IsListedFor}
+use Rattle.topo.specs.LayerLaws.CutLayers.{layer_recut}
+use Rattle.topo.proofs.LayerLawsLemmas.Ascending.{keys_ascend}
+use Rattle.topo.proofs.LayerLawsLemmas.EqualLists.{equal_features_equal_lists}
+use Rattle.topo.proofs.LayerLawsLemmas.JoinedLayers.{IsJoinedLayer}
+use Rattle.topo.proofs.LayerLawsLemmas.JoinedPairs.{cut_layers}
+use Rattle.topo.proofs.LayerLawsLemmas.RecutGeometries.{layers_after_recut}
+use Rattle.topo.proofs.LayerLawsLemmas.UnitedGeometry.{geometries_unite}
 use Rattle.compare.specs.Compared.{AreInOrder, IsComparisonOf, IsDifferenceByProperty, IsListedLayer, IsNumberOf, IsPairOf, feature_id, geometries_from, geometries_in, name_of}
 use Rattle.compare.specs.Differences.{IsDifference}
 use Rattle.compare.specs.Keyed.{AreKeys, IsKey, feature_key, id_of, key_text}

@@ -27,7 +27,7 @@ use Rattle.normalize.specs.Lists.{all_have_pieces, begun_as, geometry_healed, la
 use Rattle.normalize.specs.Pieces.{AreJoinedOf, AreSplit}
 use Rattle.normalize.proofs.Replaced.{replaced_stitch, unreplaced_stitch}
 use Rattle.normalize.proofs.Turning.{elsewhere}
-use Rattle.renumbering.specs.Rewritten.{body_rewritten}
+use Rattle.topo.specs.Rewritten.{body_rewritten}
 use mathlib.Core.Bool.{beq}
 
 -- one by one, where what f gives stands for each member

@@ -9,7 +9,7 @@ use Rattle.theory.specs.Healing.{rejoined, ring_rejoined}
 use Rattle.arcs.specs.contracts.table.ArcRefPartialEq.TheImpl as ref_eq
 use Rattle.split_heal.specs.HealedParts.{RejoinedParts}
 use Rattle.split_heal.specs.Starts.{starts_by}
-use Rattle.renumbering.specs.Rewritten.{geometry_rewritten, layer_rewritten}
+use Rattle.topo.specs.Rewritten.{geometry_rewritten, layer_rewritten}
 use Rattle.topo.specs.Parts.{LayerParts}
 use Rattle.topo.specs.declared.geom.Geom.{Geom}
 use lib.Pointwise.{pointwise}

@@ -43,18 +43,18 @@ use Rattle.shapes.specs.declared.form.Form.TheVariants as to
 use Rattle.topo.specs.declared.geom.Geom.{Geom}
 use Rattle.topo.proofs.Sound.{are_sound}
 use Rattle.topo.proofs.Walks.{walked_stitched}
-use Rattle.renumbering.specs.LayerLaws.Leaving.{layer_less}
+use Rattle.topo.specs.LayerLaws.Leaving.{layer_less}
 use Rattle.refine.specs.Lent.{all_lent}
-use Rattle.renumbering.specs.LayerLaws.LeftLists.{both_ends, line_ends, marked_by}
+use Rattle.topo.specs.LayerLaws.LeftLists.{both_ends, line_ends, marked_by}
 use Rattle.refine.specs.LeftLists.{body_ends, body_refs, layer_ends, layer_refs, layers_ends, layers_refs}
 use Rattle.refine.specs.declared.remove.LayerLeft.{LayerLeft}
-use Rattle.renumbering.specs.LayerLaws.Less.{layer_rejoined, layers_left, less, marks_of}
+use Rattle.topo.specs.LayerLaws.Less.{layer_rejoined, layers_left, less, marks_of}
 use Rattle.refine.specs.Removals.{AreJoinedOf}
-use Rattle.renumbering.proofs.LayerLawsLemmas.LeftGeometries as left
-use Rattle.renumbering.proofs.LayerLawsLemmas.LeftMarks.{marks_tell}
-use Rattle.renumbering.proofs.LayerLawsLemmas.Passing.{pass_marks}
-use Rattle.renumbering.proofs.LayerLawsLemmas.RecutGeometries.{order}
-use Rattle.renumbering.proofs.LayerLawsLemmas.RejoinedLayers.{parts_left}
+use Rattle.topo.proofs.LayerLawsLemmas.LeftGeometries as left
+use Rattle.topo.proofs.LayerLawsLemmas.LeftMarks.{marks_tell}
+use Rattle.topo.proofs.LayerLawsLemmas.Passing.{pass_marks}
+use Rattle.topo.proofs.LayerLawsLemmas.RecutGeometries.{order}
+use Rattle.topo.proofs.LayerLawsLemmas.RejoinedLayers.{parts_left}
 
 -- ---- used arcs
 

@@ -24,14 +24,14 @@ use Rattle.theory.proofs.ListsOfLists.{Has-map, map_has}
 use Rattle.merging.specs.Laws.{union_associates, union_commutes, union_empty}
 use Rattle.merging.specs.Plans.{union_all}
 use Rattle.merging.proofs.PlanLemmas.{same_grid_same, union_all-append}
-use Rattle.renumbering.proofs.GeometryOrderLemmas.NodedTables.{table_noded}
-use Rattle.renumbering.specs.GeometryOrder.Noded.{AreNoded}
-use Rattle.renumbering.specs.LayerLaws.CutLayers.{layer_recut, layers_merged}
-use Rattle.renumbering.proofs.LayerLawsLemmas.JoinedLayers.{IsJoinedLayer}
-use Rattle.renumbering.proofs.LayerLawsLemmas.JoinedPairs.{cut_layers, layers_have, layers_joined}
-use Rattle.renumbering.proofs.LayerLawsLemmas.MergedLayers.{entries_of_union}
-use Rattle.renumbering.proofs.LayerLawsLemmas.RecutGeometries.{layers_after_recut}
-use Rattle.renumbering.proofs.LayerLawsLemmas.UnitedGeometry.{geometries_unite}
+use Rattle.topo.proofs.GeometryOrderLemmas.NodedTables.{table_noded}
+use Rattle.topo.specs.GeometryOrder.Noded.{AreNoded}
+use Rattle.topo.specs.LayerLaws.CutLayers.{layer_recut, layers_merged}
+use Rattle.topo.proofs.LayerLawsLemmas.JoinedLayers.{IsJoinedLayer}
+use Rattle.topo.proofs.LayerLawsLemmas.JoinedPairs.{cut_layers, layers_have, layers_joined}
+use Rattle.topo.proofs.LayerLawsLemmas.MergedLayers.{entries_of_union}
+use Rattle.topo.proofs.LayerLawsLemmas.RecutGeometries.{layers_after_recut}
+use Rattle.topo.proofs.LayerLawsLemmas.UnitedGeometry.{geometries_unite}
 use Rattle.split_heal.specs.CuttingAll.{IsRecutOfAll}
 use Rattle.split_heal.specs.PartsOfAll.{RecutAllParts, of_table}
 use Rattle.topo.specs.GeometryOrder.{LayersHaveFeatures}

@@ -12,7 +12,7 @@ use Rattle.theory.specs.Lists.{Pairwise}
 use Rattle.theory.specs.Topology.{IsLayerOf}
 use Rattle.merging.specs.Meaning.{same_grid}
 use Rattle.refine.specs.OnGrid.{MapOnGrid}
-use Rattle.renumbering.specs.LayerLaws.CutLayers.{layer_recut}
+use Rattle.topo.specs.LayerLaws.CutLayers.{layer_recut}
 use Rattle.split_heal.specs.PartsOfAll.{RecutAllParts, of_table}
 use Rattle.topo.specs.OfMap.{ArePartsOf, layer_of}
 use Rattle.topo.specs.Parts.{LayerParts}

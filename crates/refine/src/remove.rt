@@ -1,9 +1,9 @@
 //! Taking features out of a topology: the geometries that stay keep their arcs, which are joined again
 //! where no junction is left. A geometry is stitched only where a removed feature has its id and properties.
-ghost use Rattle.renumbering.specs.LayerLaws.Leaving.{from_on, is_first, layer_less, order_to, others};
-ghost use Rattle.renumbering.specs.LayerLaws.LeftLists.{line_ends as ends_of_line, marked_by};
-ghost use Rattle.renumbering.specs.LayerLaws.Less as rejoined;
-ghost use Rattle.renumbering.specs.LayerLaws.Less.{less};
+ghost use Rattle.topo.specs.LayerLaws.Leaving.{from_on, is_first, layer_less, order_to, others};
+ghost use Rattle.topo.specs.LayerLaws.LeftLists.{line_ends as ends_of_line, marked_by};
+ghost use Rattle.topo.specs.LayerLaws.Less as rejoined;
+ghost use Rattle.topo.specs.LayerLaws.Less.{less};
 ghost use Rattle.lines.specs.Turned.{position_cmp};
 ghost use Rattle.merging.specs.declared.fault.JoinFault.TheVariants.{OtherGrid};
 ghost use Rattle.refine.specs.LeftLists.{body_ends, body_refs, layer_ends, layer_refs, layers_ends, layers_refs};
@@ -27,7 +27,6 @@ use chains::table::{ArcRef, ArcTable};
 use faults::OutOfMemory;
 use grid::Pos;
 use lines::items::Items;
-use renumbering::{NewLists, copy_rewritten};
 use shapes::feature::Feature;
 use shapes::feature_map::FeatureMap;
 use shapes::spelled::Spelled;
@@ -36,7 +35,7 @@ use std::alloc::Global;
 use std::cmp::Ordering;
 use std::collections::{BTreeSet, VecDeque};
 use std::marker::Model;
-use topo::{Body, Geom, Layer, Topology, stitching};
+use topo::{Body, Geom, Layer, NewLists, Topology, copy_rewritten, stitching};
 
 /// What is left of a topology, and the old arcs that each of its arcs is joined of.
 #[derive(Drop)]
