@@ -49,3 +49,4 @@ pub mod LeastUsed
 pub mod Backwards
 pub mod Paired
 pub mod ReplacedArcs
+pub mod Steps

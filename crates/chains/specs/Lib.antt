@@ -23,4 +23,5 @@ pub mod Joined
 pub mod OfArcs
 pub mod Along
 pub mod Turning
+pub mod Steps
 pub mod ManyTables
