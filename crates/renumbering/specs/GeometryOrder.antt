@@ -1,7 +1,5 @@
-pub mod Steps
 pub mod Least
 pub mod Lists
-pub mod Bodies
 pub mod Noded
 pub mod Noted
 pub mod Keys
