@@ -33,8 +33,8 @@ import conditions
 import refusing
 from refusing import TOP
 
-CRATES = ["grid", "faults", "sinks", "lines", "shapes", "geojson_io", "chains", "topo", "topo_io", "query", "refine", "merging",
-          "split_arcs", "heal_arcs", "difference_text", "fault_reports", "outputs", "tool"]
+CRATES = ["grid", "faults", "sinks", "lines", "shapes", "geojson_io", "arcs", "chains", "topo", "topo_io", "query", "refine", "merging",
+          "split_heal", "difference_text", "fault_reports", "outputs", "tool"]
 REFUSED = "refused_memory"
 GROUPS = ["parts", "arcs", "maps", "edits"]
 WITHOUT = "without_memory"
@@ -44,11 +44,24 @@ NO_REQUEST = "is passed an allocator and asks it for nothing"
 JUDGED = "has a condition, which its caller knows: "
 NO_GROWTH = {"Fault::here": NO_REQUEST, "FeatureMap::new": NO_REQUEST, "Kept::new": NO_REQUEST, "Script::new": NO_REQUEST}
 EXCEPTIONS = {
-    "ArcTable::with_extent": JUDGED + "split_arcs::recut",
+    "ArcTable::with_extent": JUDGED + "split_heal::recut",
     "Become::make": "is what Form::try_map calls",
     "JoinMany::join_many": JUDGED + "merging::merge_all_by",
     "merging::join_all": JUDGED + "merging::merge_all",
-    "Extent::around_all": "is what split_arcs::recut_all calls",
+    "Extent::around_all": "is what split_heal::recut_all calls",
+    "Extent::around": "is what split_heal::recut calls",
+    "Extent::has": "is what split_heal::recut calls",
+    "Extent::widen_by": "is what split_heal::recut calls",
+    "GeometryOrder::new": "is what refine::unite calls",
+    "GeometryOrder::order": JUDGED + "refine::unite",
+    "GeometryOrder::sort": JUDGED + "validate::accept",
+    "NewLists::line": "is what topo::layers_rewritten calls",
+    "NewLists::ring": "is what topo::layers_rewritten calls",
+    "topo::copy_rewritten": "is what refine::remove calls",
+    "topo::geometries_rewritten": "is what topo::layer_rewritten calls",
+    "topo::geometry_rewritten": "is what topo::geometries_rewritten calls",
+    "topo::layer_rewritten": "is what topo::layers_rewritten calls",
+    "topo::layers_rewritten": "is what refine::unite calls",
     "Topology::feature": JUDGED + "query::feature",
     "Topology::features": JUDGED + "query::feature",
     "topo::feature": JUDGED + "query::feature",
@@ -72,7 +85,7 @@ MODULES = {
     "topo_io::reader::position": "has parts of topo_io::read",
     "topo_io::reader::transform": "has parts of topo_io::read",
 }
-LAWS = "laws"  # Modules of functions that have no answer: their contracts are what they are for.
+LAWS = "laws"  # How names of modules end that are of functions that have no answer: their contracts are what they are for.
 
 FULL_NAME = re.compile(r'"(\w+::\w+)\b[^"]*"')
 COUNTS = re.compile(rb"calls (\d+), (\d+) without memory, refused (\d+), wrong 0\n")
@@ -90,7 +103,7 @@ def calls():
             module = "::".join([crate, *path])
             if module in MODULES:
                 left_out.add(module)
-            elif path[-1:] != (LAWS,):
+            elif not path or not path[-1].endswith(LAWS):
                 found[f"{owner or crate}::{name}"] = bool(MEMORY.search(modules[path].functions[owner, name]))
     return found, left_out
 

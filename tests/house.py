@@ -43,8 +43,8 @@ OTHERS = ["*_tests", "refused_*", "without_memory", "worked_maps", "acceptance",
 LAWS = ["theory", "round_trip"]
 VALIDATORS = ["validate"]
 SPEED = ["reading/*/[tT]oken*", "geojson_io/*/[tT]oken*", "topo_io/*/[tT]oken*", "topo_io/*/same*", "validate/*", "normalize/*",
-         "theory/*/Valid*", "renumbering/*/geometry_order*", "renumbering/*/GeometryOrder*", "renumbering/*/layer_laws*",
-         "renumbering/*/LayerLaws*"]
+         "theory/*/Valid*", "topo/*/geometry_order*", "topo/*/GeometryOrder*", "topo/*/layer_laws*",
+         "topo/*/LayerLaws*"]
 USERS = ["numerals/*", "fixing/*", "attributes/*", "decimal_*", "decimals/*", "snapping/*", "rounded_maps/*", "rounding_*", "togrid/*",
          "command_line/src/togrid*", "compare/*", "c_calls/*", "noshinka/*", "report_texts/*", "reading/*/fault_lists*", "reading/*/FaultLists*",
          "*/[vV]alidity/*", "*/validity.rt", "*/Validity.antt", "text_parts/*", "fault_reports/*", "difference_text/*", "outputs/*/[iI]nfo*",

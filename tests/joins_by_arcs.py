@@ -4,8 +4,8 @@
 
 The join of two topologies and the removal of features work on arcs. Contracts fix what they answer and can't say how, so this
 reads the code: cut.rt, cut_all.rt and remove.rt of crates/refine, stitching.rt and order.rt of crates/topo, each file that the
-`use crate::` lines of these bring in, and so on, and all files of the crates that split and heal arcs and number them
-anew. None may name what expands a topology, builds one, makes a shard of a map, or cuts lines or rings, nor index the
+`use crate::` lines of these bring in, and so on, and all files of the crate that splits and heals arcs, and those
+of crates/topo that number them anew. None may name what expands a topology, builds one, makes a shard of a map, or cuts lines or rings, nor index the
 visits of a map. Files that are read by name bring in modules of their crate by such `use` lines alone.
 
 First it looks that it would find such calls: WALKS has lines that have to be told, each as a line of a file that is read.
@@ -18,7 +18,7 @@ import sys
 
 TOP = os.path.dirname(os.path.dirname(os.path.abspath(__file__)))
 NAMED = {"refine": ["cut.rt", "cut_all.rt", "remove.rt"], "topo": ["stitching.rt", "order.rt"]}
-WHOLE = ["renumbering", "split_arcs", "heal_arcs"]
+WHOLE = {"split_heal": [""], "topo": ["geometry_order", "layer_laws", "new_lists", "rewritten"]}
 
 CALLS = "expand|build|from_map|cut_line|cut_ring"
 MAKES = re.compile(rf"\b({CALLS})\s*(::<[^>]*>)?\s*\(|::\s*({CALLS})\b|\bVisitIndex::of\b|[{{,]\s*({CALLS})\s*[,}}]")
@@ -32,12 +32,12 @@ WALKS = [
     ("refine/src/cut_all.rt", "    Topology::build(alloc, &grid, &union)"),
     ("refine/src/cut_all.rt", "    crate::whole::joined(alloc, shards)"),
     ("refine/src/remove.rt", "    Topology::build(alloc, &grid, &map)"),
-    ("renumbering/src/rewritten.rt", "    let both = left.expand(alloc)?.union(alloc, &right.expand(alloc)?)?;"),
-    ("renumbering/src/rewritten.rt", "    Topology::build(alloc, left.grid(), &both)"),
-    ("renumbering/src/new_lists.rt", "use topo::building::build as made;"),
-    ("renumbering/src/new_lists.rt", "use chains::{ArcRef, cut_line, cut_ring};"),
-    ("split_arcs/src/split.rt", "    let cuts = VisitIndex::of(alloc, &map)?;"),
-    ("heal_arcs/src/healing.rt", "    cut_ring(alloc, &index, ring)"),
+    ("topo/src/rewritten.rt", "    let both = left.expand(alloc)?.union(alloc, &right.expand(alloc)?)?;"),
+    ("topo/src/rewritten.rt", "    Topology::build(alloc, left.grid(), &both)"),
+    ("topo/src/new_lists.rt", "use crate::building::build as made;"),
+    ("topo/src/new_lists.rt", "use chains::{ArcRef, cut_line, cut_ring};"),
+    ("split_heal/src/split.rt", "    let cuts = VisitIndex::of(alloc, &map)?;"),
+    ("split_heal/src/healing.rt", "    cut_ring(alloc, &index, ring)"),
     ("topo/src/stitching.rt", "    topology.expand(alloc)"),
     ("topo/src/order.rt", "    from_map(alloc, grid, map)"),
 ]
@@ -59,6 +59,12 @@ def files_named(crate, left):
     return found
 
 
+def whole_files():
+    """The files that are read whole: of these crates, those whose paths below src begin so."""
+    return [path for crate, begins in WHOLE.items() for path in files_of(crate)
+            if path.partition("/src/")[2].startswith(tuple(begins))]
+
+
 def files_of(crate):
     folder = f"{TOP}/crates/{crate}/src"
     return sorted(os.path.relpath(f"{at}/{it}", f"{TOP}/crates") for at, _, files in os.walk(folder) for it in files)
@@ -69,12 +75,13 @@ def is_wrong(path, line):
     code = line.split("//")[0]
     if MAKES.search(code):
         return True
-    is_named = path.split("/")[0] in NAMED
+    is_named = path.split("/")[0] in NAMED and path not in whole_files()
     return is_named and bool(OTHERS.search(code)) and not BRINGS.fullmatch(line)
 
 
 def main():
-    files = [it for crate, names in NAMED.items() for it in files_named(crate, names)] + [it for crate in WHOLE for it in files_of(crate)]
+    files = [it for crate, names in NAMED.items() for it in files_named(crate, names)]
+    files += [it for it in whole_files() if it not in files]
     wrong = [f"{path}:{number}: {line}" for path in files for number, line in enumerate(lines_of(path), 1) if is_wrong(path, line)]
     passed = [f"not found in {path}: {line}" for path, line in WALKS if path not in files or not is_wrong(path, line)]
     print("".join(f"{it}\n" for it in wrong + passed), end="")

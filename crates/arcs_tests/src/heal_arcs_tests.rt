@@ -1,6 +1,6 @@
-//! Tests of `heal_arcs`: maps of which something is taken out, what is left of their arcs, and the lists
+//! Tests of `split_heal`: maps of which something is taken out, what is left of their arcs, and the lists
 //! of lines and rings. Expected indexes are worked out by hand.
-use heal_arcs::{HealedArcs, heal};
+use split_heal::{HealedArcs, heal};
 use std::alloc::Global;
 use std::test::Fail;
 use worked_maps::{

@@ -1,4 +1,4 @@
-//! Tests of the libraries of arcs: `chains`, `split_arcs` and `heal_arcs`.
+//! Tests of the libraries of arcs: `chains`, `split_heal`.
 #![tactic(auto)]
 
 #[cfg(test)]

@@ -1,9 +1,9 @@
-//! Tests of `split_arcs`: pairs of maps, what the arcs of each become, and the lists of lines and
+//! Tests of `split_heal`: pairs of maps, what the arcs of each become, and the lists of lines and
 //! rings. Expected indexes are worked out by hand.
 use crate::chains_tests::run_along;
 use chains::{ArcTable, VisitIndex, cut_arc};
 use grid::pos::Pos;
-use split_arcs::{Recut, Side, recut};
+use split_heal::{Recut, Side, recut};
 use std::alloc::Global;
 use std::collections::BTreeSet;
 use std::test::Fail;

@@ -15,17 +15,18 @@ use Rattle.theory.proofs.Chains.{not_own_reverse}
 use Rattle.theory.proofs.ListsOfLists.{Has-map, map_has}
 use Rattle.grid.specs.declared.pos.Pos.{Pos}
 use Rattle.lines.specs.Turned.{position_cmp, list_cmp}
-use Rattle.chains.specs.Among.{among, Tells}
-use Rattle.chains.specs.Pieces.{is_backwards_less, least_direction, oriented, chain_of}
-use Rattle.chains.specs.Arcs.{Arcs}
-use Rattle.chains.specs.Table.{AreLoopsOf}
+use Rattle.arcs.specs.Among.{among, Tells}
+use Rattle.arcs.specs.Pieces.{is_backwards_less, least_direction, chain_of}
+use Rattle.chains.specs.Pieces.{oriented}
+use Rattle.arcs.specs.Arcs.{Arcs}
+use Rattle.arcs.specs.Table.{AreLoopsOf}
 use Rattle.chains.specs.Joined.{SegmentsOf, StopAt, MeetsTwo, IsChainOver, AreAllChains, AreMaximal}
 use Rattle.chains.specs.declared.segment.Segment.{Segment}
-use Rattle.chains.specs.declared.cutting.Piece.{Piece}
+use Rattle.arcs.specs.declared.piece.Piece.{Piece}
 use Rattle.lines.specs.Positions.{position_total, position_same}
 use Rattle.lines.proofs.Positions.{position_most, true_false}
 use Rattle.chains.proofs.Oriented.{marked}
-use Rattle.chains.proofs.Marks.{all_marked}
+use Rattle.arcs.proofs.Marks.{all_marked}
 use Rattle.chains.proofs.Found.{Among-turn}
 
 lists_same : (xs ys : List Pos) → list_cmp xs ys ≡ Equal → xs ≡ ys

@@ -6,7 +6,7 @@ use Rattle.theory.specs.Geometry.{Geometry, IsSound, SegmentOf, JunctionOf}
 use Rattle.theory.specs.Segments.{OnThree}
 use Rattle.theory.proofs.ProvedLaws.{junction_by_segments}
 use Rattle.chains.specs.Index.{IsIndexOf, EndsALine}
-use Rattle.chains.specs.Among.{Tells, among}
+use Rattle.arcs.specs.Among.{Tells, among}
 use Rattle.lines.specs.Pairs.{position_eq}
 use Rattle.lines.proofs.Positions.{position_true, position_refl}
 use Rattle.lines.specs.Positions.{position_total, position_same}

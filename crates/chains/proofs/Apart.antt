@@ -4,7 +4,7 @@ use Rattle.std.specs.List.{list_any}
 use Rattle.theory.specs.Refinement.{unclosed}
 use Rattle.grid.specs.declared.pos.Pos.{Pos}
 use Rattle.lines.specs.PositionFilter as bits
-use Rattle.chains.specs.Extents.{within}
+use Rattle.arcs.specs.Extents.{within}
 use Rattle.chains.specs.VertexFilter.{inside, may_hold, meets, met_visits}
 use Rattle.chains.specs.Visits.{HaveSame, around_of, inner_of}
 use Rattle.chains.specs.declared.vertex_filter.VertexFilter.{VertexFilter}

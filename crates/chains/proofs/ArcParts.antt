@@ -16,8 +16,9 @@ use Rattle.lines.specs.Turned.{list_cmp}
 use Rattle.lines.proofs.Dropping.{drop_next}
 use Rattle.lines.proofs.Positions.{true_false}
 use Rattle.chains.specs.ArcPieces.{meets_stop, turned_loop, pieces_at, read_from, JoinTo, EndsAtStop, MeetAtStops, AreCutAt}
-use Rattle.chains.specs.Pieces.{cut_inside, cut_inside_from, goes_on, is_backwards_less, least_direction, open_pieces, piece_along, used}
-use Rattle.chains.specs.declared.cutting.Piece.{Piece}
+use Rattle.chains.specs.Pieces.{cut_inside, cut_inside_from, goes_on, open_pieces}
+use Rattle.arcs.specs.Pieces.{is_backwards_less, least_direction, piece_along, used}
+use Rattle.arcs.specs.declared.piece.Piece.{Piece}
 use Rattle.chains.proofs.LoopStops.{turned_least, turned_long}
 use Rattle.chains.proofs.Oriented.{used_along, used_parts}
 use Rattle.chains.proofs.Sharing.{none_met}

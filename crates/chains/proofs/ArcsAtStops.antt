@@ -10,12 +10,13 @@ use Rattle.theory.proofs.Lists.{Has-append_right, append_nil}
 use Rattle.grid.specs.declared.pos.Pos.{Pos}
 use Rattle.lines.specs.Turned.{position_cmp}
 use Rattle.lines.proofs.Positions.{position_most}
-use Rattle.chains.specs.Among.{among}
+use Rattle.arcs.specs.Among.{among}
 use Rattle.chains.specs.ArcPieces.{loop_pieces}
-use Rattle.chains.specs.Arcs.{Arcs}
-use Rattle.chains.specs.Pieces.{begun_ring, cut_inside, piece_along, ring_pieces}
+use Rattle.arcs.specs.Arcs.{Arcs}
+use Rattle.chains.specs.Pieces.{begun_ring, cut_inside, ring_pieces}
+use Rattle.arcs.specs.Pieces.{piece_along}
 use Rattle.chains.specs.Starts.{start_place}
-use Rattle.chains.specs.Table.{is_loop, IsTableOf}
+use Rattle.arcs.specs.Table.{is_loop, IsTableOf}
 use Rattle.chains.proofs.LoopStops.{opened_parted, starts_at}
 use Rattle.chains.proofs.SharedVertices.{front_has}
 use Rattle.chains.proofs.TablesAsMap.{told, free_loop}

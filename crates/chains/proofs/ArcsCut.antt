@@ -14,13 +14,14 @@ use Rattle.theory.proofs.PiecesExist.{are_arcs_as_map, whole_union}
 use Rattle.grid.specs.declared.pos.Pos.{Pos}
 use Rattle.lines.specs.Turned.{position_cmp}
 use Rattle.chains.specs.ArcPieces.{pieces_at}
-use Rattle.chains.specs.Arcs.{Arcs}
+use Rattle.arcs.specs.Arcs.{Arcs}
 use Rattle.chains.specs.Index.{IsIndexOf}
 use Rattle.chains.specs.OfArcs.{arc_pieces, ArePiecesUnder}
-use Rattle.chains.specs.Among.{among, Tells}
-use Rattle.chains.specs.Pieces.{used, begun_ring, cut_inside, line_pieces, parts_round, ring_pieces, ArePieces}
-use Rattle.chains.specs.Table.{is_loop, free_at, IsTableOf}
-use Rattle.chains.specs.declared.cutting.Piece.{Piece}
+use Rattle.arcs.specs.Among.{among, Tells}
+use Rattle.arcs.specs.Pieces.{used, ArePieces}
+use Rattle.chains.specs.Pieces.{begun_ring, cut_inside, line_pieces, parts_round, ring_pieces}
+use Rattle.arcs.specs.Table.{is_loop, free_at, IsTableOf}
+use Rattle.arcs.specs.declared.piece.Piece.{Piece}
 use Rattle.chains.proofs.Cuts.{line_is_cut, ring_is_cut}
 use Rattle.lines.specs.Positions.{position_total, position_same}
 use Rattle.lines.proofs.Positions.{position_dec}

@@ -5,7 +5,7 @@ use Rattle.grid.specs.declared.pos.Pos.{Pos}
 use Rattle.lines.specs.Turned.{position_cmp}
 use Rattle.theory.specs.Cutting.{cut_from}
 use Rattle.theory.specs.Lists.{EndOf, Has, front_of, last_of}
-use Rattle.chains.specs.Among.{among}
+use Rattle.arcs.specs.Among.{among}
 use Rattle.chains.specs.Index.{IsIndexOf}
 use Rattle.chains.specs.Starts.{start_place}
 use Rattle.chains.specs.Pieces.{begun_ring, cut_inside, cut_inside_from, goes_on, parts_round}

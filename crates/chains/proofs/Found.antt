@@ -8,7 +8,7 @@ use Rattle.theory.specs.Walking.{Joining, Noted, Removed}
 use Rattle.theory.proofs.Lists.{Beside-flip, Has-append_left}
 use Rattle.theory.proofs.Walking.{from_stop, from_seam, passed, all_covered}
 use Rattle.lines.specs.Turned.{position_cmp}
-use Rattle.chains.specs.Among.{among}
+use Rattle.arcs.specs.Among.{among}
 use Rattle.theory.specs.Geometry.{AtMost}
 use Rattle.lines.proofs.Positions.{bool_split, true_false, position_decide, position_most, not_before}
 use Rattle.chains.specs.Joined.{AmongSegments, SegmentsOf, StopAt, MeetsTwo, Covered, IsJoining, Took, AreCovering}

@@ -13,15 +13,6 @@ pub mod LoopStops
 pub mod ArcParts
 pub mod ArcsAtStops
 pub mod Parted
-pub mod Places
-pub mod Rising
-pub mod AsTheyStand
-pub mod Merged
-pub mod Marks
-pub mod Looking
-pub mod Numbered
-pub mod KeysFirst
-pub mod PlacedPieces
 pub mod TableOfMap
 pub mod WalkSteps
 pub mod Noting
@@ -29,7 +20,6 @@ pub mod NotedPlaces
 pub mod Found
 pub mod AllChains
 pub mod Slices
-pub mod Extents
 pub mod Sharing
 pub mod Recurring
 pub mod MetVertices
@@ -44,9 +34,5 @@ pub mod Stepping
 pub mod Siding
 pub mod ArcSegments
 pub mod Staying
-pub mod TurnedLists
-pub mod LeastUsed
-pub mod Backwards
 pub mod Paired
 pub mod ReplacedArcs
-pub mod Steps

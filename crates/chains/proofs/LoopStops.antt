@@ -11,9 +11,10 @@ use Rattle.grid.specs.declared.pos.Pos.{Pos}
 use Rattle.lines.specs.Positions.{position_total}
 use Rattle.lines.specs.Turned.{position_cmp}
 use Rattle.lines.proofs.Positions.{true_false}
-use Rattle.chains.specs.Among.{among}
+use Rattle.arcs.specs.Among.{among}
 use Rattle.chains.specs.ArcPieces.{least_stop, IsLeastStop}
-use Rattle.chains.specs.Pieces.{begins_free, begun_ring, cut_inside, cut_inside_from, goes_on, open_pieces, opened_at, parts_round, piece_along, ring_pieces}
+use Rattle.chains.specs.Pieces.{begins_free, begun_ring, cut_inside, cut_inside_from, goes_on, open_pieces, opened_at, parts_round, ring_pieces}
+use Rattle.arcs.specs.Pieces.{piece_along}
 use Rattle.chains.specs.Starts.{start_of, start_cmp, start_place}
 use Rattle.chains.proofs.Openings.{LeastAt, Opening, starts_list, head_or, place_least, opening, start_there}
 use Rattle.chains.proofs.Sharing.{none_any}

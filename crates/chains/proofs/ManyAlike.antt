@@ -17,15 +17,16 @@ use Rattle.grid.specs.declared.pos.Pos.{Pos}
 use Rattle.lines.specs.Turned.{position_cmp}
 use Rattle.lines.specs.Positions.{position_total, position_same}
 use Rattle.lines.proofs.Positions.{position_dec, true_false}
-use Rattle.chains.specs.Arcs.{Arcs}
+use Rattle.arcs.specs.Arcs.{Arcs}
 use Rattle.chains.specs.Index.{AreVisitsOf, IsIndexOf}
 use Rattle.chains.specs.ManyTables.{AreTablesOf, IsUnionOfAll, MarkShared, UnmarkedStayWhole, all_as_map, all_marked_visits, arcs_of_all, lines_of_table, marked_visits, piece_ends, piece_meets, piece_visits, rings_of_table, vertices_once}
 use Rattle.chains.specs.OfArcs.{tables_as_map}
-use Rattle.chains.specs.Placing.{pieces_under, whole_pieces}
-use Rattle.chains.specs.Table.{IsTableOf}
+use Rattle.chains.specs.ArcPieces.{pieces_under}
+use Rattle.arcs.specs.Placing.{whole_pieces}
+use Rattle.arcs.specs.Table.{IsTableOf}
 use Rattle.chains.specs.VertexFilter.{KeepsClashes, inside}
 use Rattle.chains.specs.Visits.{HaveSame}
-use Rattle.chains.specs.declared.cutting.Piece.{Piece}
+use Rattle.arcs.specs.declared.piece.Piece.{Piece}
 use Rattle.chains.specs.declared.visits.Visit.{Visit}
 use Rattle.chains.proofs.Gathered.{clash_seen}
 use Rattle.chains.proofs.ManyTables.{EachIsTable, all_visits_are, each_is, gathered_both, has_marked, line_piece, loop_once, map_of, marked_are, marked_only, piece_arc, ring_piece, said_of, table_of, twice_across, twice_right, visit_free, visit_in, visit_once, visit_there, visit_within}

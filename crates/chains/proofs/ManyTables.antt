@@ -10,14 +10,14 @@ use Rattle.theory.proofs.Lists.{Has-append_right}
 use Rattle.theory.proofs.ListsOfLists.{Has-gathered, gathered_from}
 use Rattle.grid.specs.declared.pos.Pos.{Pos}
 use Rattle.lines.proofs.Positions.{true_false}
-use Rattle.chains.specs.Arcs.{Arcs}
+use Rattle.arcs.specs.Arcs.{Arcs}
 use Rattle.chains.specs.Index.{AreVisitsOf}
 use Rattle.chains.specs.ManyTables.{AreTablesOf, all_as_map, all_marked_visits, arcs_of_all, lines_of_table, marked_visits, piece_ends, piece_meets, piece_visits, rings_of_table, vertices_once}
-use Rattle.chains.specs.Placing.{whole_pieces}
-use Rattle.chains.specs.Table.{is_loop, IsTableOf}
-use Rattle.chains.specs.VertexFilter.{inside, whole}
+use Rattle.arcs.specs.Placing.{whole_pieces, whole}
+use Rattle.arcs.specs.Table.{is_loop, IsTableOf}
+use Rattle.chains.specs.VertexFilter.{inside}
 use Rattle.chains.specs.Visits.{around_of, ends_of, inner_of, visit_of}
-use Rattle.chains.specs.declared.cutting.Piece.{Piece}
+use Rattle.arcs.specs.declared.piece.Piece.{Piece}
 use Rattle.chains.specs.declared.visits.Visit.{Visit}
 use Rattle.chains.proofs.Gathered.{between_has, ends_has, found_in, has_ends}
 use Rattle.chains.proofs.SharedVertices.{inner, inside_has, visit_inside}

@@ -5,7 +5,7 @@ use Rattle.std.specs.Option.{is_some}
 use Rattle.theory.specs.Walking.{Joining}
 use Rattle.lines.specs.Turned.{position_cmp}
 use Rattle.lines.specs.Pairs.{position_eq}
-use Rattle.chains.specs.Among.{among}
+use Rattle.arcs.specs.Among.{among}
 use Rattle.theory.specs.Geometry.{AtMost}
 use Rattle.lines.proofs.Positions.{position_tied, tied_position, position_true, true_position, true_false}
 use Rattle.chains.specs.Joined.{AmongSegments, SegmentsOf, StopAt, MeetsTwo}

@@ -5,9 +5,10 @@ use Rattle.theory.specs.Lists.{Has}
 use Rattle.theory.specs.Chain.{IsChain, Free}
 use Rattle.theory.proofs.Reversing.{Has-reverse}
 use Rattle.grid.specs.declared.pos.Pos.{Pos}
-use Rattle.chains.specs.Among.{Tells}
-use Rattle.chains.specs.Pieces.{used, piece_along, least_direction, is_backwards_less, begins_free}
-use Rattle.chains.specs.declared.cutting.Piece.{Piece}
+use Rattle.arcs.specs.Among.{Tells}
+use Rattle.arcs.specs.Pieces.{used, piece_along, least_direction, is_backwards_less}
+use Rattle.chains.specs.Pieces.{begins_free}
+use Rattle.arcs.specs.declared.piece.Piece.{Piece}
 
 -- what a piece is, whatever its mark
 pub used_along : (free : Bool) (c : List Pos) → used (piece_along free c) ≡ c

@@ -7,7 +7,7 @@ use Rattle.theory.proofs.Lists.{Has-append, Has-append_left, Has-append_right}
 use Rattle.grid.specs.declared.pos.Pos.{Pos}
 use Rattle.lines.specs.Turned.{position_cmp}
 use Rattle.chains.specs.Joined.{AmongSegments, SegmentsOf, StopAt, MeetsTwo, IsChainOver, Covered, AreCovering, AreParted, AreAllChains, AreMaximal}
-use Rattle.chains.specs.Arcs.{Arcs}
+use Rattle.arcs.specs.Arcs.{Arcs}
 use Rattle.chains.specs.declared.segment.Segment.{Segment}
 use Rattle.lines.proofs.Positions.{position_most}
 use Rattle.chains.proofs.Found.{Among-turn}

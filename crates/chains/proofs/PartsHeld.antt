@@ -6,12 +6,12 @@ use Rattle.theory.specs.Refinement.{unclosed}
 use Rattle.theory.proofs.Lists.{Has-append, Has-append_left, Has-append_right, append_nil}
 use Rattle.theory.proofs.ListsOfLists.{map_has}
 use Rattle.grid.specs.declared.pos.Pos.{Pos}
-use Rattle.chains.specs.Among.{among}
-use Rattle.chains.specs.ArcPieces.{pieces_at}
-use Rattle.chains.specs.Pieces.{begun_ring, cut_inside, cut_inside_from, goes_on, opened_at, parts_round, piece_along}
-use Rattle.chains.specs.Placing.{pieces_under}
+use Rattle.arcs.specs.Among.{among}
+use Rattle.chains.specs.ArcPieces.{pieces_at, pieces_under}
+use Rattle.chains.specs.Pieces.{begun_ring, cut_inside, cut_inside_from, goes_on, opened_at, parts_round}
+use Rattle.arcs.specs.Pieces.{piece_along}
 use Rattle.chains.specs.Starts.{start_place}
-use Rattle.chains.specs.declared.cutting.Piece.{Piece}
+use Rattle.arcs.specs.declared.piece.Piece.{Piece}
 use Rattle.chains.proofs.Oriented.{least_has}
 use Rattle.chains.proofs.SharedVertices.{front_has}
 

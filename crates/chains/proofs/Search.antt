@@ -1,6 +1,5 @@
 -- A look-up in a sorted list.
-use Rattle.std.proofs.Common.{◌≡◌, ℕ, ◌<◌, ◌≤◌, Bool, true, false, List, length, get_or, ◌⊎◌, inl, inr, refl, sym, ap, ◌∙◌, subst, arith, Result, Ok, Err, nat_lt}
-use borrow.Author.Tests.{ltb-true, ltb-false}
+use Rattle.std.proofs.Common.{◌≡◌, ℕ, Bool, List, length, get_or, inl, inr, sym, ap, ◌∙◌, subst, arith, Result, Ok, Err}
 use Rattle.std.specs.Result.{is_ok}
 use Rattle.std.specs.List.Sorted.{IsSorted, IsBinarySearchResult, IsSearchInRange}
 use Rattle.std.specs.Cmp.{tied_itself}
@@ -9,17 +8,10 @@ use Rattle.std.proofs.lemmas.List.Sorted.{searchable_from_sorted}
 use Rattle.grid.specs.declared.pos.Pos.{Pos}
 use Rattle.lines.specs.Turned.{position_cmp}
 use Rattle.theory.specs.Lists.{Has}
-use Rattle.chains.specs.Among.{Tells, among}
+use Rattle.arcs.specs.Among.{Tells, among}
 use Rattle.chains.proofs.Among.{told_among}
 use Rattle.lines.proofs.SortedLists.{Contains-from_has, has_from_contains}
 use Rattle.lines.specs.Positions.{position_total, position_same}
-
-pub split_at : (k i : ℕ) → (k < i) ⊎ (i ≤ k)
-split_at k i = go (nat_lt k i) refl
-  where
-    go : (b : Bool) → nat_lt k i ≡ b → (k < i) ⊎ (i ≤ k)
-    go true e = inl (ltb-true k i e)
-    go false e = inr (ltb-false k i e)
 
 pub found : (xs : List Pos) (x : Pos) (r : Result ℕ ℕ) (b : Bool) → b ≡ is_ok r → IsSearchInRange r (length xs) →
     IsBinarySearchResult (λ y. position_cmp y x) xs r → IsSorted position_cmp xs → Tells b (Has x xs)

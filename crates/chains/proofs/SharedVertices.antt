@@ -20,18 +20,20 @@ use Rattle.grid.specs.declared.pos.Pos.{Pos}
 use Rattle.lines.specs.Turned.{position_cmp}
 use Rattle.lines.specs.Positions.{position_total}
 use Rattle.lines.proofs.Positions.{true_false}
-use Rattle.chains.specs.Among.{among}
-use Rattle.chains.specs.Arcs.{Arcs}
-use Rattle.chains.specs.Extents.{within}
-use Rattle.chains.specs.Holding.{HoldAll}
+use Rattle.arcs.specs.Among.{among}
+use Rattle.arcs.specs.Arcs.{Arcs}
+use Rattle.arcs.specs.Extents.{within}
+use Rattle.arcs.specs.Holding.{HoldAll}
 use Rattle.chains.specs.Index.{IsIndexOf, AreVisitsOf}
 use Rattle.chains.specs.OfArcs.{arc_pieces, arc_visits, tables_as_map}
 use Rattle.chains.specs.ArcPieces.{loop_pieces, pieces_at}
-use Rattle.chains.specs.Pieces.{begun_ring, cut_inside, cut_inside_from, is_backwards_less, open_pieces, piece_along}
-use Rattle.chains.specs.VertexFilter.{arc_meets, arc_shared, inside, may_hold, whole, HoldCommon, HoldShared, KeepsClashes, StayWhole}
-use Rattle.chains.specs.Table.{is_loop, IsTableOf}
+use Rattle.chains.specs.Pieces.{begun_ring, cut_inside, cut_inside_from, open_pieces}
+use Rattle.arcs.specs.Pieces.{is_backwards_less, piece_along}
+use Rattle.chains.specs.VertexFilter.{arc_meets, arc_shared, inside, may_hold, HoldCommon, HoldShared, KeepsClashes, StayWhole}
+use Rattle.arcs.specs.Placing.{whole}
+use Rattle.arcs.specs.Table.{is_loop, IsTableOf}
 use Rattle.chains.specs.Visits.{around_of, inner_of, visit_of, HaveSame}
-use Rattle.chains.specs.declared.arcs_box.Extent.{Extent}
+use Rattle.arcs.specs.declared.arcs_box.Extent.{Extent}
 use Rattle.chains.specs.declared.vertex_filter.VertexFilter.{VertexFilter}
 use Rattle.chains.specs.declared.visits.Visit.{Visit}
 use Rattle.chains.proofs.Among.{among_has}

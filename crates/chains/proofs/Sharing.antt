@@ -1,13 +1,13 @@
 -- What a test of positions says of lists of them.
-use Rattle.std.proofs.Common.{◌≡◌, Bool, true, false, ◌||◌, List, [], ◌∷◌, ◌++◌, inl, inr, ◌⊎◌, Option, Some, None, refl, sym, ap, ◌∙◌, subst}
+use Rattle.std.proofs.Common.{◌≡◌, Bool, true, false, ◌||◌, List, [], ◌∷◌, ◌++◌, inl, inr, Option, Some, None, refl, sym, ap, ◌∙◌}
 use Rattle.std.specs.List.{list_any}
 use Rattle.theory.specs.Lists.{Has}
 use Rattle.theory.proofs.Lists.{last-snoc}
 use Rattle.grid.specs.declared.pos.Pos.{Pos}
 use Rattle.lines.proofs.Positions.{true_false}
-use Rattle.chains.specs.Among.{among}
+use Rattle.arcs.specs.Among.{among}
 use Rattle.lines.specs.PositionFilter.{may_hold}
-use Rattle.lines.specs.Holding.{AreMarked, Holds}
+use Rattle.lines.specs.Holding.{Holds}
 use Rattle.chains.specs.VertexFilter.{arc_meets, arc_shared, meets_if, shared_if, KeepsClashes}
 use Rattle.chains.specs.Visits.{ends_of}
 use Rattle.lines.specs.declared.position_filter.PositionFilter.{PositionFilter}
@@ -22,18 +22,6 @@ not_held bits js ks p b v e f h = f ∙ sym (go (among ks p) refl) ∙ ap (λ l.
     go : (a : Bool) → among ks p ≡ a → among ks p ≡ false
     go true t = absurd (true_false (may_hold bits p) (h p (among_has ks p t)) (sym e ∙ f))
     go false t = t
-
--- of the arcs those of whose vertices it does not hold are still to come
-abbrev pub ArcsAreLeft : (Pos → Bool) → List (List Pos) → List (List Pos) → Type 0
-ArcsAreLeft may all left = (c : List Pos) → Has c all → Has c left ⊎ Holds may c
-
-pub arc_marked : (now new : Pos → Bool) (all left : List (List Pos)) (arc : List Pos) → AreMarked arc now new →
-    ArcsAreLeft now all (arc ∷ left) → ArcsAreLeft new all left
-arc_marked now new all left arc m before c j = elim (before c j) [
-  | inl (inl e) ↦ inr (subst (Holds new) (sym e) m.1)
-  | inl (inr r) ↦ inl r
-  | inr k ↦ inr (λ p q. m.0 p (k p q))
-]
 
 -- what is said of none holds of no member
 pub none_met : (may : Pos → Bool) (l : List Pos) → list_any may l ≡ false → (v : Pos) → Has v l → may v ≡ false

@@ -8,7 +8,7 @@ use Rattle.std.specs.List.{list_any, position_or_len}
 use Rattle.theory.specs.Lists.{Has, Each}
 use Rattle.theory.specs.Geometry.{Geometry, IsSound, IsLineOf, IsRingOf, SegmentOf, JunctionOf, AtMost, IsChainOf}
 use Rattle.theory.specs.Chain.{Free}
-use Rattle.theory.specs.Arcs.{IsArcOf, AreArcsOf, EitherWay, AreSortedOnce}
+use Rattle.theory.specs.Arcs.{IsArcOf, EitherWay, AreSortedOnce}
 use Rattle.theory.specs.Stitching.{ArePiecesOf, HaveAllPieces}
 use Rattle.theory.specs.ArcNumbers.{along, AreTaken, StitchTo}
 use Rattle.theory.specs.Topology.{IsRingList}
@@ -16,21 +16,19 @@ use Rattle.theory.specs.TopologyFunction.{forward, lesser}
 use Rattle.theory.proofs.ArcNumbers.{taken_line, taken_ring}
 use Rattle.theory.proofs.ListsOfLists.{Each-Has, Has-map, map_has}
 use Rattle.theory.proofs.ArcsOfMap.{forward_arc}
-use Rattle.theory.proofs.SegmentsOnce.{sorted_pieces_are_arcs, segments_once}
 use Rattle.grid.specs.declared.pos.Pos.{Pos}
 use Rattle.lines.specs.Turned.{position_cmp, list_cmp}
-use Rattle.chains.specs.Among.{among, Tells}
+use Rattle.arcs.specs.Among.{among, Tells}
 use Rattle.chains.specs.Index.{IsIndexOf}
-use Rattle.chains.specs.Pieces.{begins_free, begun_ring, chain_of, cut_inside, is_backwards_less, least_direction, line_pieces, parts_round, piece_along, ring_pieces, IsPieceOf, ArePieces}
-use Rattle.chains.specs.Arcs.{Arcs}
-use Rattle.chains.specs.Table.{same_list, located, AreLoopsOf, ArePiecesOfMap, IsTableOf}
-use Rattle.chains.specs.declared.cutting.Piece.{Piece}
+use Rattle.chains.specs.Pieces.{begins_free, begun_ring, cut_inside, line_pieces, parts_round, ring_pieces}
+use Rattle.arcs.specs.Pieces.{chain_of, is_backwards_less, least_direction, piece_along, IsPieceOf, ArePieces}
+use Rattle.arcs.specs.Table.{same_list, located, ArePiecesOfMap}
+use Rattle.arcs.specs.declared.piece.Piece.{Piece}
 use Rattle.lines.specs.Positions.{position_total, position_same}
 use Rattle.lines.proofs.Positions.{position_dec}
-use Rattle.chains.proofs.Places.{along_found, found_place}
+use Rattle.arcs.proofs.Places.{along_found, found_place}
 use Rattle.chains.proofs.LoopStops.{list_begins, ring_begins}
 use Rattle.chains.proofs.Oriented.{marked, used_along}
-use Rattle.chains.proofs.Marks.{all_marked}
 use Rattle.chains.proofs.Cuts.{end_stops, line_is_cut, ring_is_cut, stops, passes}
 
 -- both words for the least direction
@@ -152,16 +150,3 @@ module _ (g : Geometry Pos) (sound : IsSound g) (keys : List Pos) (index : IsInd
         taken_ring position_cmp g arcs (map (located arcs) (ring_pieces keys r)) (ring_parts r) r
         (ring_is_cut g sound keys index r h (ring_parts r) refl)
         (all_taken arcs (ring_free r) (ring_parts r) (λ c k. s.there (least_direction c) (of_ring r c h k)))
-
--- sorted, each once, the pieces of a map are its arcs
-pub table_is : (g : Geometry Pos) → IsSound g → (ps : List Piece) (t : Arcs) → AreSortedOnce list_cmp (map chain_of ps) t.arcs → AreLoopsOf ps t.loops →
-    ArePiecesOfMap g ps → IsTableOf g t
-table_is g sound ps t s m are =
-    let good : (c : List Pos) → Has c (map chain_of ps) → IsArcOf position_cmp g c =
-    λ c h. (let k = map_has chain_of ps c h in subst (IsArcOf position_cmp g) (sym k.2) (are.each k.0 k.1).arc) in
-    let arcs : AreArcsOf position_cmp g t.arcs = sorted_pieces_are_arcs position_cmp position_total position_same position_dec g sound (map chain_of ps) are.all t.arcs good s in
-    record {
-      arcs = arcs;
-      free = all_marked (JunctionOf g) ps t (λ p h. (are.each p h).free) m s.only;
-      once = segments_once position_cmp position_total position_same position_dec g sound t.arcs arcs;
-    }

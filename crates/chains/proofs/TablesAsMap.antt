@@ -14,11 +14,11 @@ use Rattle.theory.proofs.Turning.{keep_has, has_keep}
 use Rattle.theory.proofs.ArcsAsMap.{kind, arcs_sound, arcs_alike}
 use Rattle.grid.specs.declared.pos.Pos.{Pos}
 use Rattle.lines.specs.Turned.{position_cmp}
-use Rattle.chains.specs.Arcs.{Arcs}
+use Rattle.arcs.specs.Arcs.{Arcs}
 use Rattle.chains.specs.Index.{IsIndexOf, AreVisitsOf}
 use Rattle.chains.specs.OfArcs.{open_in, loops_in, tables_as_map, arc_ends, arc_visits, ends_if}
-use Rattle.chains.specs.Among.{Tells}
-use Rattle.chains.specs.Table.{is_loop, is_loop_if, IsTableOf}
+use Rattle.arcs.specs.Among.{Tells}
+use Rattle.arcs.specs.Table.{is_loop, is_loop_if, IsTableOf}
 use Rattle.chains.specs.Visits.{HaveSame, visit_of, inner_of, around_of, ends_of}
 use Rattle.chains.specs.declared.visits.Visit.{Visit}
 use Rattle.lines.specs.Positions.{position_total, position_same}

@@ -7,9 +7,11 @@ use Rattle.theory.specs.Refinement.{unclosed}
 use Rattle.theory.specs.Stitching.{Stitched}
 use Rattle.grid.specs.declared.pos.Pos.{Pos}
 use Rattle.lines.specs.Turned.{position_cmp}
-use Rattle.chains.specs.Pieces.{begun_ring, is_backwards_less, open_pieces, pieces_round, used}
+use Rattle.chains.specs.Pieces.{begun_ring, open_pieces, pieces_round}
+use Rattle.arcs.specs.Pieces.{is_backwards_less, used}
 use Rattle.chains.specs.Starts.{start_place}
-use Rattle.chains.specs.declared.cutting.Piece.{Piece}
+use Rattle.arcs.specs.declared.piece.Piece.{Piece}
+use Rattle.arcs.specs.Among.{among}
 
 -- the place of the ring's least stop, where one lies on it [topojson-server; own]
 abbrev pub least_stop : (Pos → Bool) → List Pos → Option ℕ
@@ -74,3 +76,7 @@ pub record AreCutAt (stop : Pos → Bool) (free : Bool) (c : List Pos) (ps : Lis
   pub least : (p : Piece) → Has p ps → is_backwards_less p.chain ≡ false
   -- a piece is free exactly where the arc is a free loop on which no stop lies
   pub marked : (p : Piece) → Has p ps → p.free ≡ (free && not (meets_stop stop c))
+
+-- the pieces of an arc that is its own one piece, where these are the junctions
+abbrev pub pieces_under : List Pos → Piece → List Piece
+pieces_under junctions p = pieces_at (among junctions) p.free p.chain

@@ -10,9 +10,9 @@ use Rattle.theory.specs.Geometry.{AtMost}
 use Rattle.theory.specs.Arcs.{Ascends}
 use Rattle.grid.specs.declared.pos.Pos.{Pos}
 use Rattle.lines.specs.Turned.{position_cmp, list_cmp}
-use Rattle.chains.specs.Arcs.{Arcs}
-use Rattle.chains.specs.Among.{among, Tells}
-use Rattle.chains.specs.Table.{free_at}
+use Rattle.arcs.specs.Arcs.{Arcs}
+use Rattle.arcs.specs.Among.{among, Tells}
+use Rattle.arcs.specs.Table.{free_at}
 use Rattle.chains.specs.Walk.{links_in}
 use Rattle.chains.specs.declared.segment.Segment.{Segment}
 

@@ -4,14 +4,15 @@ use Rattle.theory.specs.Geometry.{Geometry, IsLineOf, IsRingOf, IsSound}
 use Rattle.theory.specs.Lists.{Has, Pairwise, Twice, gathered}
 use Rattle.theory.specs.Refinement.{IsPartOf, unclosed}
 use Rattle.grid.specs.declared.pos.Pos.{Pos}
-use Rattle.chains.specs.Arcs.{Arcs}
+use Rattle.arcs.specs.Arcs.{Arcs}
 use Rattle.chains.specs.OfArcs.{table_as_map}
-use Rattle.chains.specs.Placing.{pieces_under, whole_pieces}
-use Rattle.chains.specs.Stored.{first_of}
-use Rattle.chains.specs.Table.{IsTableOf}
+use Rattle.chains.specs.ArcPieces.{pieces_under}
+use Rattle.arcs.specs.Placing.{whole_pieces}
+use Rattle.arcs.specs.Stored.{first_of}
+use Rattle.arcs.specs.Table.{IsTableOf}
 use Rattle.chains.specs.VertexFilter.{meets}
 use Rattle.chains.specs.Visits.{around_of, ends_of, inner_of}
-use Rattle.chains.specs.declared.cutting.Piece.{Piece}
+use Rattle.arcs.specs.declared.piece.Piece.{Piece}
 use Rattle.chains.specs.declared.visits.Visit.{Visit}
 
 -- u has the lines and the rings of all the maps, and no others

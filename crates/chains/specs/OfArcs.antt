@@ -8,13 +8,13 @@ use Rattle.theory.specs.Stitching.{ArePiecesOf, AreRingPiecesOf}
 use Rattle.theory.specs.TopologyFunction.{keep}
 use Rattle.grid.specs.declared.pos.Pos.{Pos}
 use Rattle.lines.specs.Turned.{position_cmp}
-use Rattle.chains.specs.Among.{among}
+use Rattle.arcs.specs.Among.{among}
 use Rattle.chains.specs.ArcPieces.{pieces_at}
-use Rattle.chains.specs.Arcs.{Arcs}
-use Rattle.chains.specs.Pieces.{used, ArePieces}
-use Rattle.chains.specs.Table.{is_loop}
+use Rattle.arcs.specs.Arcs.{Arcs}
+use Rattle.arcs.specs.Pieces.{used, ArePieces}
+use Rattle.arcs.specs.Table.{is_loop}
 use Rattle.chains.specs.Visits.{inner_of, around_of, ends_of}
-use Rattle.chains.specs.declared.cutting.Piece.{Piece}
+use Rattle.arcs.specs.declared.piece.Piece.{Piece}
 use Rattle.chains.specs.declared.visits.Visit.{Visit}
 
 -- the arcs that are no free loops

@@ -1,17 +1,16 @@
 -- The vertices that two tables of arcs may share, and the arcs that have some.
-use Rattle.std.specs.Prelude.{◌≡◌, ℕ, Bool, true, false, ◌&&◌, cond, drop, List, [], ◌∷◌, get_or, Option, Some, None, slice_get}
+use Rattle.std.specs.Prelude.{◌≡◌, ℕ, Bool, true, false, ◌&&◌, cond, drop, List, [], get_or, Option, Some, None, slice_get}
 use Rattle.std.specs.List.{list_any}
 use Rattle.theory.specs.Lists.{Has}
 use Rattle.theory.specs.Refinement.{unclosed}
 use Rattle.grid.specs.declared.pos.Pos.{Pos}
-use Rattle.chains.specs.Arcs.{Arcs}
+use Rattle.arcs.specs.Arcs.{Arcs}
 use Rattle.lines.specs.PositionFilter as bits
-use Rattle.chains.specs.Extents.{within}
+use Rattle.arcs.specs.Extents.{within}
 use Rattle.chains.specs.OfArcs.{arc_pieces}
-use Rattle.chains.specs.Table.{is_loop}
+use Rattle.arcs.specs.Table.{is_loop}
 use Rattle.chains.specs.Visits.{inner_of, around_of}
-use Rattle.chains.specs.declared.cutting.Piece.{Piece}
-use Rattle.chains.specs.declared.arcs_box.Extent.{Extent}
+use Rattle.arcs.specs.declared.arcs_box.Extent.{Extent}
 use Rattle.chains.specs.declared.vertex_filter.VertexFilter.{VertexFilter}
 use Rattle.chains.specs.declared.visits.Visit.{Visit}
 
@@ -60,10 +59,6 @@ meets_if may loops (Some c) = arc_meets may loops c
 abbrev pub shared_if : (Pos → Bool) → List (List Pos) → Option (List Pos) → List Visit
 shared_if may loops None = []
 shared_if may loops (Some c) = arc_shared may loops c
-
--- an arc as its own one piece
-abbrev pub whole : List (List Pos) → List Pos → List Piece
-whole loops c = record { chain = c; reversed = false; free = is_loop loops c } ∷ []
 
 -- an arc that is not marked is its own one piece, where these are the junctions
 abbrev pub StayWhole : List Pos → Arcs → List Bool → Type 0

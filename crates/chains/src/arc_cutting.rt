@@ -1,16 +1,17 @@
 //! Cutting the arcs of a table at any stops.
 ghost use Rattle.chains.specs.ArcPieces.{AreCutAt};
-ghost use Rattle.chains.specs.Among.{among};
+ghost use Rattle.arcs.specs.Among.{among};
 ghost use Rattle.chains.specs.Index.{IsIndexOf};
 ghost use Rattle.chains.specs.OfArcs.{pieces_if, ArePiecesUnder};
-ghost use Rattle.chains.specs.Table.{free_at, IsTableOf};
+ghost use Rattle.arcs.specs.Table.{free_at, IsTableOf};
 ghost use Rattle.grid.specs.declared.pos.Pos.{Pos};
 ghost use Rattle.std.specs.Prelude.{◌≡◌, ◌<◌, List, Some, IfOk, length, slice_get};
 ghost use Rattle.theory.specs.Geometry.{Geometry, IsSound};
 ghost use Rattle.theory.specs.Refinement.{IsPartOf};
 
-use crate::cutting::{Piece, cut_at_stops};
-use crate::table::ArcTable;
+use crate::cutting::cut_at_stops;
+use arcs::piece::Piece;
+use arcs::table::ArcTable;
 use faults::OutOfMemory;
 use grid::pos::Pos;
 use std::alloc::Global;

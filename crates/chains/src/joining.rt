@@ -1,5 +1,5 @@
 //! Finding the maximal chains over segments, by walking along them from stop to stop.
-ghost use Rattle.chains.specs.Among.{among};
+ghost use Rattle.arcs.specs.Among.{among};
 ghost use Rattle.chains.specs.Joined.{AmongSegments, MeetsTwo, IsJoining, Took, AreCovering, AreParted, AreMaximal};
 ghost use Rattle.chains.specs.Links.{joined, noted, noted_all};
 ghost use Rattle.chains.specs.Pieces.{oriented};
@@ -9,11 +9,12 @@ ghost use Rattle.grid.specs.declared.pos.Pos.{Pos};
 ghost use Rattle.std.specs.BTreeMap.{btree_map_len};
 ghost use Rattle.std.specs.Prelude.{◌≡◌, ◌≤◌, IfOk, OnOk, None, List, map, ◌∷◌};
 
-use crate::cutting::{Piece, begins_free};
+use crate::cutting::begins_free;
 use crate::listing::list_of_set;
 use crate::segment::Segment;
 use crate::stop_set::StopSet;
-use crate::table::ArcTable;
+use arcs::piece::Piece;
+use arcs::table::ArcTable;
 use faults::OutOfMemory;
 use grid::pos::Pos;
 use std::alloc::{AllocError, Global};

@@ -2,9 +2,9 @@
 ghost use Rattle.chains.specs.Visits.{HaveSame};
 ghost use Rattle.std.specs.Prelude.{◌++◌, ◌∷◌, [], IfOk, OnOk};
 
-use crate::cutting::Piece;
-use crate::marking::{first_mark, is_marked};
-use crate::table::ArcTable;
+use arcs::marking::{first_mark, is_marked};
+use arcs::piece::Piece;
+use arcs::table::ArcTable;
 use grid::pos::Pos;
 use lines::position_filter::place_among;
 use shapes::feature::Feature;

@@ -12,10 +12,10 @@ ghost use Rattle.std.specs.Prelude.{◌≡◌, ◌++◌, IfOk, List, OnOk, map};
 ghost use Rattle.theory.specs.Lists.{gathered};
 ghost use Rattle.theory.specs.TopologyFunction.{keep};
 
-use crate::cutting::Piece;
 use crate::recent::count_in_pieces;
 use crate::vertex_filter::inside;
 use crate::visits::{Visit, visit_within};
+use arcs::piece::Piece;
 use grid::pos::Pos;
 use lines::position_filter::PositionFilter;
 use std::alloc::{AllocError, Global};

@@ -5,7 +5,7 @@ ghost use Rattle.grid.specs.declared.pos.Pos.{Pos};
 ghost use Rattle.std.specs.Prelude.{◌↔◌, ◌⊎◌, IfOk, OnOk};
 
 use crate::segment::Segment;
-use crate::table::ArcTable;
+use arcs::table::ArcTable;
 use grid::pos::Pos;
 use std::alloc::{AllocError, Global};
 

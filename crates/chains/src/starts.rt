@@ -1,5 +1,5 @@
 //! Where the cut of a ring begins: at its least stop, or at its least vertex where it has none.
-ghost use Rattle.chains.specs.Among.{among};
+ghost use Rattle.arcs.specs.Among.{among};
 ghost use Rattle.chains.specs.Starts.{start_of, start_cmp, start_place};
 ghost use Rattle.std.specs.Ordering.{is_lt};
 ghost use Rattle.std.specs.Prelude.{◌≡◌};

@@ -1,5 +1,5 @@
 //! The stops of chains, with most look-ups ended by bits that the stops set.
-ghost use Rattle.chains.specs.Among.{among};
+ghost use Rattle.arcs.specs.Among.{among};
 ghost use Rattle.std.specs.Prelude.{◌≡◌, IfOk};
 
 use crate::listing::list_of_set;

@@ -1,5 +1,5 @@
 //! Where chains stop.
-ghost use Rattle.chains.specs.Among.{among};
+ghost use Rattle.arcs.specs.Among.{among};
 ghost use Rattle.grid.specs.declared.pos.Pos.{Pos};
 ghost use Rattle.std.specs.Prelude.{◌≡◌, List};
 

@@ -1,6 +1,6 @@
 //! The bits of the vertices that two tables of arcs may share. Most vertices of the other table find a
 //! bit of theirs not set, and so are known to be no vertices of the first.
-ghost use Rattle.chains.specs.Extents.{within};
+ghost use Rattle.arcs.specs.Extents.{within};
 ghost use Rattle.chains.specs.VertexFilter as spec;
 ghost use Rattle.chains.specs.VertexFilter.{HoldCommon, may_hold};
 ghost use Rattle.std.specs.List.{list_any};
@@ -8,8 +8,8 @@ ghost use Rattle.std.specs.Prelude.{◌≡◌, ◌++◌, IfOk, OnOk, map as map_
 ghost use Rattle.theory.specs.Lists.{gathered};
 ghost use Rattle.theory.specs.TopologyFunction.{keep};
 
-use crate::arcs_box::Extent;
-use crate::table::ArcTable;
+use arcs::Extent;
+use arcs::table::ArcTable;
 use grid::pos::Pos;
 use lines::position_filter::PositionFilter;
 use std::alloc::{AllocError, Global};

@@ -1,14 +1,14 @@
 //! The index of visits: one list of visits, sorted once, of which the junctions are kept.
 mod over_pieces;
 
-ghost use Rattle.chains.specs.Among.{among};
-ghost use Rattle.chains.specs.Extents.{within};
-ghost use Rattle.chains.specs.Holding.{HoldAll};
+ghost use Rattle.arcs.specs.Among.{among};
+ghost use Rattle.arcs.specs.Extents.{within};
+ghost use Rattle.arcs.specs.Holding.{HoldAll};
 ghost use Rattle.chains.specs.Index.{IsIndexOf, EndsALine, AreVisitsOf, feature_ends, feature_visits, form_ends, form_visits};
 ghost use Rattle.chains.specs.OfArcs.{arc_ends, ends_if, tables_as_map};
 ghost use Rattle.chains.specs.Seen.{form_of, geometry_of, seen};
 ghost use Rattle.chains.specs.VertexFilter.{KeepsClashes, StaysApart, StayWhole, arc_meets, arc_shared, may_hold, meets, meets_if, met_visits, shared_if};
-ghost use Rattle.chains.specs.Table.{IsTableOf};
+ghost use Rattle.arcs.specs.Table.{IsTableOf};
 ghost use Rattle.chains.specs.Visits.{visit_of, inner_of, ends_of, around_of, clash, clashes_of, HaveSame};
 ghost use Rattle.chains.specs.Noted.{visits_at, visits_noted};
 ghost use Rattle.chains.specs.declared.visits.Visit.{Visit as Visiting};
@@ -24,12 +24,12 @@ ghost use Rattle.theory.specs.Refinement.{IsUnionOf, unclosed};
 ghost use Rattle.theory.specs.Segments.{OnThree};
 ghost use Rattle.theory.specs.Topology.{forms_of, lines_in, rings_in};
 
-use crate::arcs_box::Extent;
-use crate::marking::is_marked;
 use crate::recent::{Recent, count_in_map, count_in_marked_arcs, dedup_recent, kept_place};
 use crate::repeats::find_repeated;
-use crate::table::ArcTable;
 use crate::vertex_filter::{VertexFilter, inside};
+use arcs::Extent;
+use arcs::marking::is_marked;
+use arcs::table::ArcTable;
 use faults::OutOfMemory;
 use grid::pos::Pos;
 use lines::pair::PositionPair;

@@ -15,8 +15,7 @@ use Rattle.shapes.specs.OrderLaws.{same_text}
 use Rattle.theory.specs.Lists.{Has}
 use Rattle.theory.proofs.Ascending.{less_back}
 use Rattle.topo.specs.Parts.{LayerParts}
-use Rattle.chains.proofs.Looking.{get_or_some}
-use Rattle.chains.proofs.Search.{split_at}
+use Rattle.arcs.proofs.Looking.{get_or_some, split_at}
 use Rattle.compare.specs.Compared.{AreInOrder, IsNumberOf, name_of}
 
 abbrev R : List ℕ → List ℕ → Ordering

@@ -16,7 +16,7 @@ use Rattle.theory.specs.Lists.{Has, Pairwise}
 use Rattle.theory.proofs.Ascending.{greater_back, less_self, same_members}
 use Rattle.theory.proofs.ListsOfLists.{Has-map, Pairwise-same, Pairwise-weaker, get_has, has_get, map_has}
 use Rattle.topo.specs.Parts.{LayerParts}
-use Rattle.chains.proofs.Search.{split_at}
+use Rattle.arcs.proofs.Looking.{split_at}
 use Rattle.compare.specs.Compared.{AreInOrder, IsNumberOf, IsPairIn, name_of}
 use Rattle.compare.specs.Pairing.{IsPairing, order_by_name, pair_by_order}
 use Rattle.compare.specs.declared.pairs.LayerPair.{LayerPair}

@@ -21,28 +21,28 @@ use Rattle.shapes.specs.declared.shape.Id.{Id}
 use Rattle.shapes.specs.declared.shape.Id.TheVariants as ids
 use Rattle.shapes.specs.declared.shape.Id.TheVariants.{Text}
 use Rattle.shapes.proofs.Entries.{found as found_entry}
-use Rattle.chains.specs.Arcs.{Arcs}
+use Rattle.arcs.specs.Arcs.{Arcs}
 use Rattle.chains.specs.Seen.{geometry_of}
-use Rattle.chains.specs.Table.{IsTableOf}
+use Rattle.arcs.specs.Table.{IsTableOf}
 use Rattle.theory.specs.Arcs.{AreArcsOf}
 use Rattle.theory.specs.Geometry.{Geometry, IsSound, JunctionOf}
 use Rattle.theory.specs.Lists.{Has, Pairwise}
 use Rattle.theory.proofs.ListsOfLists.{get_has, has_get}
 use Rattle.theory.specs.Refinement.{IsUnionOf}
-use Rattle.split_arcs.specs.Cutting.{IsRecutOf}
-use Rattle.split_arcs.specs.Parts.{RecutParts}
+use Rattle.split_heal.specs.Cutting.{IsRecutOf}
+use Rattle.split_heal.specs.SplitParts.{RecutParts}
 use Rattle.topo.specs.OfMap.{IsOf}
 use Rattle.topo.specs.Parts.{LayerParts, TopologyParts}
 use Rattle.topo.specs.declared.geom.Geom.{Geom}
 use Rattle.topo.proofs.Sound.{are_sound}
-use Rattle.renumbering.specs.LayerLaws.CutLaws.{IsListedFor}
-use Rattle.renumbering.specs.LayerLaws.CutLayers.{layer_recut}
-use Rattle.renumbering.proofs.LayerLawsLemmas.Ascending.{keys_ascend}
-use Rattle.renumbering.proofs.LayerLawsLemmas.EqualLists.{equal_features_equal_lists}
-use Rattle.renumbering.proofs.LayerLawsLemmas.JoinedLayers.{IsJoinedLayer}
-use Rattle.renumbering.proofs.LayerLawsLemmas.JoinedPairs.{cut_layers}
-use Rattle.renumbering.proofs.LayerLawsLemmas.RecutGeometries.{layers_after_recut}
-use Rattle.renumbering.proofs.LayerLawsLemmas.UnitedGeometry.{geometries_unite}
+use Rattle.topo.specs.LayerLaws.CutLaws.{IsListedFor}
+use Rattle.topo.specs.LayerLaws.CutLayers.{layer_recut}
+use Rattle.topo.proofs.LayerLawsLemmas.Ascending.{keys_ascend}
+use Rattle.topo.proofs.LayerLawsLemmas.EqualLists.{equal_features_equal_lists}
+use Rattle.topo.proofs.LayerLawsLemmas.JoinedLayers.{IsJoinedLayer}
+use Rattle.topo.proofs.LayerLawsLemmas.JoinedPairs.{cut_layers}
+use Rattle.topo.proofs.LayerLawsLemmas.RecutGeometries.{layers_after_recut}
+use Rattle.topo.proofs.LayerLawsLemmas.UnitedGeometry.{geometries_unite}
 use Rattle.compare.specs.Compared.{AreInOrder, IsComparisonOf, IsDifferenceByProperty, IsListedLayer, IsNumberOf, IsPairOf, feature_id, geometries_from, geometries_in, name_of}
 use Rattle.compare.specs.Differences.{IsDifference}
 use Rattle.compare.specs.Keyed.{AreKeys, IsKey, feature_key, id_of, key_text}

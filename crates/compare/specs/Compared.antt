@@ -18,7 +18,7 @@ use Rattle.theory.specs.Geometry.{Geometry}
 use Rattle.theory.specs.Lists.{Has, Pairwise}
 use Rattle.topo.specs.Parts.{LayerParts}
 use Rattle.topo.specs.declared.geom.Geom.{Geom}
-use Rattle.renumbering.specs.LayerLaws.CutLaws.{IsListedFor}
+use Rattle.topo.specs.LayerLaws.CutLaws.{IsListedFor}
 use Rattle.compare.specs.Differences.{IsDifferenceBy}
 use Rattle.compare.specs.Keyed.{feature_key}
 use Rattle.compare.specs.declared.comparison.Comparison.{Comparison}

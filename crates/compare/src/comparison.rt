@@ -5,9 +5,9 @@ ghost use Rattle.compare.specs.Keyed.{AreKeys, id_of};
 ghost use Rattle.compare.specs.Pairing.{IsPairing};
 ghost use Rattle.compare.specs.Placed.{IsDifferenceAt};
 ghost use Rattle.compare.specs.declared.fault.CompareFault.TheVariants.{OtherGrid};
-ghost use Rattle.renumbering.specs.LayerLaws.CutLayers.{layer_recut};
-ghost use Rattle.renumbering.specs.LayerLaws.Cuts as cuts;
-ghost use Rattle.split_arcs.specs.Parts.{of_side};
+ghost use Rattle.topo.specs.LayerLaws.CutLayers.{layer_recut};
+ghost use Rattle.topo.specs.LayerLaws.Cuts as cuts;
+ghost use Rattle.split_heal.specs.SplitParts.{of_side};
 ghost use Rattle.shapes.specs.Maps.{Layers, features_at};
 ghost use Rattle.shapes.specs.Sets as set;
 ghost use Rattle.shapes.specs.declared.shape.Id.{Id};
@@ -21,10 +21,9 @@ use crate::pairs::{LayerPair, pairs_of};
 use crate::property::keys_of;
 use chains::table::{ArcRef, ArcTable};
 use faults::OutOfMemory;
-use renumbering::{NewLists, layers_rewritten};
-use split_arcs::{Recut, Side, recut_owned};
+use split_heal::{Recut, Side, recut_owned};
 use std::alloc::{AllocError, Global};
-use topo::{Geom, Layer, Topology};
+use topo::{Geom, Layer, NewLists, Topology, layers_rewritten};
 
 /// The lists of a side by the new arcs.
 #[derive(Drop)]

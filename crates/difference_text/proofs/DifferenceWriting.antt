@@ -4,7 +4,7 @@ use Rattle.std.specs.Prelude.{nat_lt, not}
 use Rattle.std.specs.Borrow.{Bor}
 use Rattle.std.specs.Option.{option_copied}
 use Rattle.std.specs.Ordering.{is_eq}
-use Rattle.chains.specs.Arcs.{Arcs}
+use Rattle.arcs.specs.Arcs.{Arcs}
 use Rattle.compare.specs.Compared.{geometries_from}
 use Rattle.shapes.specs.Order.{id_cmp}
 use Rattle.shapes.specs.contracts.shape.IdOrd.TheImpl.Laws.{matches_eq-law as id_ties}

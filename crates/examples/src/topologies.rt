@@ -5,7 +5,7 @@ use crate::inputs::{features_of, read_map, read_topology, unit_grid};
 use grid::Grid;
 use refine::remove::remove;
 use shapes::FeatureMap;
-use split_arcs::recut;
+use split_heal::recut;
 use std::alloc::Global;
 use topo::Topology;
 

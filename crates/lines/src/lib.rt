@@ -1,6 +1,7 @@
 //! Lines and rings: lists of positions that use no segment twice.
 #![tactic(auto)]
 
+pub mod copying;
 pub mod items;
 pub mod line;
 pub mod neighbours;

@@ -16,7 +16,7 @@ use Rattle.theory.specs.ArcNumbers.{ArcRef, StitchTo, along}
 use Rattle.theory.specs.LinesAndRings.{IsRotation, closed}
 use Rattle.theory.specs.Lists.{Pairwise}
 use Rattle.theory.specs.Refinement.{replaced}
-use Rattle.heal_arcs.specs.Parts.{RejoinedParts}
+use Rattle.split_heal.specs.HealedParts.{RejoinedParts}
 use Rattle.topo.specs.Features.{IsLineOf, IsRingOf, IsShapeOf}
 use Rattle.topo.specs.Parts.{LayerParts}
 use Rattle.topo.specs.Bodies as bodies
@@ -27,7 +27,7 @@ use Rattle.normalize.specs.Lists.{all_have_pieces, begun_as, geometry_healed, la
 use Rattle.normalize.specs.Pieces.{AreJoinedOf, AreSplit}
 use Rattle.normalize.proofs.Replaced.{replaced_stitch, unreplaced_stitch}
 use Rattle.normalize.proofs.Turning.{elsewhere}
-use Rattle.renumbering.specs.Rewritten.{body_rewritten}
+use Rattle.topo.specs.Rewritten.{body_rewritten}
 use mathlib.Core.Bool.{beq}
 
 -- one by one, where what f gives stands for each member

@@ -6,10 +6,10 @@ use Rattle.lines.specs.Turned.{position_cmp}
 use Rattle.theory.specs.ArcNumbers.{ArcRef}
 use Rattle.theory.specs.Refinement.{replaced}
 use Rattle.theory.specs.Healing.{rejoined, ring_rejoined}
-use Rattle.chains.specs.contracts.table.ArcRefPartialEq.TheImpl as ref_eq
-use Rattle.heal_arcs.specs.Parts.{RejoinedParts}
-use Rattle.heal_arcs.specs.Starts.{starts_by}
-use Rattle.renumbering.specs.Rewritten.{geometry_rewritten, layer_rewritten}
+use Rattle.arcs.specs.contracts.table.ArcRefPartialEq.TheImpl as ref_eq
+use Rattle.split_heal.specs.HealedParts.{RejoinedParts}
+use Rattle.split_heal.specs.Starts.{starts_by}
+use Rattle.topo.specs.Rewritten.{geometry_rewritten, layer_rewritten}
 use Rattle.topo.specs.Parts.{LayerParts}
 use Rattle.topo.specs.declared.geom.Geom.{Geom}
 use lib.Pointwise.{pointwise}

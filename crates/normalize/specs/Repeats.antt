@@ -6,7 +6,7 @@ use Rattle.lines.specs.Reading.{collapsed}
 use Rattle.lines.specs.Turned.{position_cmp}
 use Rattle.theory.specs.ArcNumbers.{ArcRef}
 use Rattle.theory.specs.TopologyFunction.{keep, same_vertex}
-use Rattle.renumbering.specs.Rewritten.{layer_rewritten}
+use Rattle.topo.specs.Rewritten.{layer_rewritten}
 use Rattle.topo.specs.Parts.{LayerParts}
 
 -- whether an arc has equal neighbours

@@ -1,11 +1,10 @@
 //! Copies of layers by new lists of used arcs.
-ghost use Rattle.renumbering.specs.Rewritten.{geometry_rewritten, layer_rewritten};
 ghost use Rattle.std.specs.Prelude.{◌≡◌, IfOk, map as map_list};
+ghost use Rattle.topo.specs.Rewritten.{geometry_rewritten, layer_rewritten};
 
 use faults::OutOfMemory;
-use renumbering::{NewLists, copy_rewritten};
 use std::alloc::Global;
-use topo::{Geom, Layer};
+use topo::{Geom, Layer, NewLists, copy_rewritten};
 
 fn geometries_copied<L: NewLists>(
     alloc: Global,

@@ -9,7 +9,7 @@ use crate::stitches::stitch_to;
 use chains::ArcTable;
 use faults::OutOfMemory;
 use grid::pos::Pos;
-use heal_arcs::{HealedArcs, heal};
+use split_heal::{HealedArcs, heal};
 use std::alloc::Global;
 
 /// Whether the pieces of a joined arc stitch to it.

@@ -6,9 +6,9 @@ use crate::pieces::replace_arcs;
 use crate::split::Split;
 use chains::ArcRef;
 use faults::OutOfMemory;
-use heal_arcs::HealedArcs;
-use renumbering::NewLists;
+use split_heal::HealedArcs;
 use std::alloc::Global;
+use topo::NewLists;
 
 /// The arcs of a text split, and healed again.
 #[derive(Drop)]

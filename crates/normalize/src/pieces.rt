@@ -9,7 +9,7 @@ use crate::split::Split;
 use chains::ArcRef;
 use chains::used_arcs::add_in_direction;
 use faults::OutOfMemory;
-use heal_arcs::HealedArcs;
+use split_heal::HealedArcs;
 use std::alloc::{AllocError, Global};
 
 /// Arcs that have pieces.

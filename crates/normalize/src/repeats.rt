@@ -11,9 +11,8 @@ use faults::OutOfMemory;
 use grid::pos::Pos;
 use lines::items::Items;
 use lines::neighbours::has_equal_neighbours;
-use renumbering::NewLists;
 use std::alloc::Global;
-use topo::Layer;
+use topo::{Layer, NewLists};
 use validate::accept::TextArcs;
 
 /// The arcs of a text without repeated positions, by the same numbers; and its layers without the used arcs

@@ -6,8 +6,8 @@ use Rattle.merging.specs.Laws.{union_commutes, union_empty}
 use Rattle.refine.specs.Edits.{IsEditedTo, IsOnGrid}
 use Rattle.refine.specs.declared.edit.Edit.{Edit}
 use Rattle.refine.specs.declared.edit.Edit.TheVariants.{Join, Remove}
-use Rattle.renumbering.specs.LayerLaws.Less.{less}
-use Rattle.renumbering.specs.LayerLaws.OneMap.{one_map}
+use Rattle.topo.specs.LayerLaws.Less.{less}
+use Rattle.topo.specs.LayerLaws.OneMap.{one_map}
 use Rattle.shapes.specs.Maps.{Layers}
 use Rattle.shapes.specs.Union.{union}
 use Rattle.topo.specs.OfMap.{IsOf}

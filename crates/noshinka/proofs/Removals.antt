@@ -1,7 +1,7 @@
 -- Refusals of the parts of a removal, as refusals of the removal.
 use Rattle.std.proofs.Common.{◌≡◌, ◌∙◌, ap, sym, subst, ℕ, List, inl, inr}
 use Rattle.grid.specs.Place.{Transform}
-use Rattle.renumbering.specs.LayerLaws.Less.{less}
+use Rattle.topo.specs.LayerLaws.Less.{less}
 use Rattle.shapes.specs.Maps.{Layers}
 use Rattle.topo.proofs.TopologyLaws.{is_computed}
 use Rattle.topo.specs.OfMap.{IsOf, seen_parts}

@@ -3,7 +3,7 @@ use Rattle.std.specs.Prelude.{◌≡◌, ◌<◌, ⊤, ℕ, IsTrue, List, [], No
 use Rattle.std.specs.FinMap as layers
 use Rattle.grid.specs.Place.{Transform}
 use Rattle.outputs.specs.InfoText.{info_text}
-use Rattle.renumbering.specs.LayerLaws.Less.{less}
+use Rattle.topo.specs.LayerLaws.Less.{less}
 use Rattle.query.specs.Collections.{layer_collection}
 use Rattle.shapes.specs.Maps.{Layers}
 use Rattle.topo.specs.ItsMap.{ForItsMap}

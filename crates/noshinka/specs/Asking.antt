@@ -1,6 +1,6 @@
 -- What meshes and neighbours are answered as, and why they are not.
 use Rattle.std.specs.Prelude.{◌≡◌, ◌<◌, ◌≤◌, ◌⊎◌, ◌&&◌, ℕ, Bool, true, false, List, None, Option, Some, nat_eq, nat_lt, if◌then◌else◌}
-use Rattle.chains.specs.Arcs.{Arcs}
+use Rattle.arcs.specs.Arcs.{Arcs}
 use Rattle.query.specs.AnswerTexts.{mesh_text, neighbor_ids_text, neighbors_text}
 use Rattle.query.specs.ByProperty.{AreBordersBy, ListsNeighborsBy}
 use Rattle.query.specs.Keyed.{keyed_text}

@@ -3,7 +3,7 @@ use Rattle.std.specs.Prelude.{◌≡◌, ◌<◌, ◌≤◌, ◌⊎◌, ◌+◌,
 use Rattle.grid.specs.Place.{Transform}
 use Rattle.refine.specs.Edits.{IsEditedTo, IsOnGrid}
 use Rattle.refine.specs.declared.edit.Edit.{Edit}
-use Rattle.renumbering.specs.LayerLaws.Less.{less}
+use Rattle.topo.specs.LayerLaws.Less.{less}
 use Rattle.shapes.specs.Maps.{Layers}
 use Rattle.shapes.specs.Union.{union}
 use Rattle.topo.specs.OfMap.{IsOf}

@@ -1,6 +1,6 @@
 -- What a topology is made of, as lines and as a JSON object.
 use Rattle.std.specs.Prelude.{ℕ, ℤ, Bool, true, false, List, [], ◌++◌, None, Option, Some, codes, cond, decimal, length, map as map_list, nat_eq, nat_lt, sum}
-use Rattle.chains.specs.Arcs.{Arcs}
+use Rattle.arcs.specs.Arcs.{Arcs}
 use Rattle.grid.specs.Place.{Transform}
 use Rattle.query.specs.Info.{free_below, kinds_of}
 use Rattle.query.specs.declared.info.Kinds.{Kinds}

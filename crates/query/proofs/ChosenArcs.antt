@@ -7,18 +7,18 @@ use Rattle.lines.specs.Turned.{position_cmp}
 use Rattle.lines.specs.Positions.{position_total, position_same}
 use Rattle.lines.proofs.Positions.{position_dec}
 use Rattle.chains.specs.Along.{OnArcs, HasArcs, SidesFrom, SidesOf}
-use Rattle.chains.specs.Arcs.{Arcs}
+use Rattle.arcs.specs.Arcs.{Arcs}
 use Rattle.chains.specs.Joined.{AmongSegments, IsChainOver, SegmentsOf, StopAt}
 use Rattle.chains.specs.Seen.{geometry_of}
 use Rattle.chains.specs.Segments.{ends_of}
-use Rattle.chains.specs.Table.{IsTableOf}
+use Rattle.arcs.specs.Table.{IsTableOf}
 use Rattle.chains.specs.declared.segment.Segment.{Segment}
 use Rattle.chains.proofs.Among.{among_has, has_among}
 use Rattle.chains.proofs.ArcSegments.{segments_on}
 use Rattle.chains.proofs.Siding.{on_arc, sides_beside}
 use Rattle.chains.proofs.TablesAsMap.{union_sound}
-use Rattle.heal_arcs.specs.Healing.{IsLeftBy, IsRejoinedOf}
-use Rattle.heal_arcs.specs.Parts.{RejoinedParts}
+use Rattle.split_heal.specs.Healing.{IsLeftBy, IsRejoinedOf}
+use Rattle.split_heal.specs.HealedParts.{RejoinedParts}
 use Rattle.theory.proofs.ArcNumbers.{taken_of, uses_along}
 use Rattle.theory.proofs.ArcsAsMap.{arcs_same, three_map}
 use Rattle.theory.proofs.Chains.{IsChain-same}

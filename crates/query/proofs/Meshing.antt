@@ -10,7 +10,7 @@ use Rattle.shapes.specs.Maps.{Layers}
 use Rattle.shapes.specs.Order.{feature_cmp}
 use Rattle.shapes.specs.OrderLaws.{feature_cmp_total, same_feature}
 use Rattle.shapes.specs.declared.feature.Feature.{Feature}
-use Rattle.chains.specs.Arcs.{Arcs}
+use Rattle.arcs.specs.Arcs.{Arcs}
 use Rattle.chains.specs.Joined.{AmongSegments}
 use Rattle.chains.specs.Seen.{form_of, geometry_of}
 use Rattle.chains.specs.declared.segment.Segment.{Segment}

@@ -13,10 +13,10 @@ use Rattle.lines.specs.ByVertex.{StandByVertex, count_at}
 use Rattle.lines.specs.Turned.{position_cmp}
 use Rattle.grid.specs.declared.pos.Pos.{Pos}
 use Rattle.lines.specs.Pairs.{position_eq}
-use Rattle.chains.specs.Among.{among}
-use Rattle.chains.specs.Arcs.{Arcs}
+use Rattle.arcs.specs.Among.{among}
+use Rattle.arcs.specs.Arcs.{Arcs}
 use Rattle.chains.specs.Joined.{StopAt}
-use Rattle.chains.specs.Table.{IsTableOf}
+use Rattle.arcs.specs.Table.{IsTableOf}
 use Rattle.lines.proofs.Positions.{position_apart, position_decide, position_true, tied_position, true_false, true_position}
 use Rattle.lines.proofs.ByVertex.{behind_at, here_at, sorted_stand, stand_behind}
 use Rattle.lines.proofs.SortedLists.{Has-permutation}

@@ -4,8 +4,8 @@ use Rattle.std.proofs.lemmas.List.{reverse-reverse}
 use Rattle.grid.specs.declared.pos.Pos.{Pos}
 use Rattle.lines.specs.Turned.{position_cmp}
 use Rattle.lines.specs.Positions.{position_total, position_same}
-use Rattle.chains.specs.Arcs.{Arcs}
-use Rattle.chains.specs.Table.{IsTableOf}
+use Rattle.arcs.specs.Arcs.{Arcs}
+use Rattle.arcs.specs.Table.{IsTableOf}
 use Rattle.theory.specs.Geometry.{AtMost, Geometry, IsChainOf, IsSound, JunctionOf, SegmentOf}
 use Rattle.theory.specs.Lists.{BeginsTwo, Beside, Distinct, EndOf, Has, Passes, Steps, front_of, last_of}
 use Rattle.theory.specs.Segments.{OnTwo, TwoSegments}

@@ -9,7 +9,7 @@ use Rattle.shapes.specs.Parts.{properties_text}
 use Rattle.shapes.specs.Properties.{properties_value}
 use Rattle.shapes.specs.declared.feature.Feature.{Feature}
 use Rattle.shapes.specs.declared.props.Props.{Props}
-use Rattle.chains.specs.Arcs.{Arcs}
+use Rattle.arcs.specs.Arcs.{Arcs}
 use Rattle.chains.specs.Joined.{AmongSegments}
 use Rattle.chains.specs.declared.segment.Segment.{Segment}
 use Rattle.theory.specs.Lists.{Has}

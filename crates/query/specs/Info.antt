@@ -1,7 +1,7 @@
 -- What a topology is made of, in numbers.
 use Rattle.std.specs.Prelude.{ℕ, zero, suc, ◌+◌, Bool, true, false, List, [], ◌∷◌}
-use Rattle.chains.specs.Arcs.{Arcs}
-use Rattle.chains.specs.Table.{free_at}
+use Rattle.arcs.specs.Arcs.{Arcs}
+use Rattle.arcs.specs.Table.{free_at}
 use Rattle.topo.specs.Bodies.{Body}
 use Rattle.shapes.specs.declared.form.Form.TheVariants as of
 use Rattle.topo.specs.declared.geom.Geom.{Geom}

@@ -8,7 +8,7 @@ use Rattle.shapes.specs.Maps.{Layers, features_at}
 use Rattle.shapes.specs.Order.{feature_cmp}
 use Rattle.shapes.specs.Sets as set
 use Rattle.shapes.specs.declared.feature.Feature.{Feature}
-use Rattle.chains.specs.Arcs.{Arcs}
+use Rattle.arcs.specs.Arcs.{Arcs}
 use Rattle.chains.specs.Joined.{AmongSegments, AreMaximal}
 use Rattle.chains.specs.Seen.{form_of}
 use Rattle.chains.specs.declared.segment.Segment.{Segment}

@@ -4,7 +4,7 @@ use Rattle.std.specs.Ordering.{is_eq}
 use Rattle.grid.specs.declared.pos.Pos.{Pos}
 use Rattle.lines.specs.Turned.{position_cmp}
 use Rattle.lines.specs.Pairs.{position_eq}
-use Rattle.chains.specs.Among.{among}
+use Rattle.arcs.specs.Among.{among}
 use Rattle.chains.specs.Joined.{SegmentsOf, StopAt}
 use Rattle.chains.specs.declared.segment.Segment.{Segment}
 use Rattle.theory.specs.Lists.{Has}

@@ -8,7 +8,7 @@ ghost use Rattle.std.specs.Prelude.{◌≡◌, IfOk, List, false, replicate};
 use crate::stops::stops_of;
 use chains::ArcTable;
 use faults::OutOfMemory;
-use heal_arcs::heal;
+use split_heal::heal;
 use std::alloc::{AllocError, Global};
 use topo::Topology;
 

@@ -1,6 +1,6 @@
 //! The vertices at which lines over arcs stop.
-ghost use Rattle.chains.specs.Among.{among};
-ghost use Rattle.chains.specs.Table.{IsTableOf};
+ghost use Rattle.arcs.specs.Among.{among};
+ghost use Rattle.arcs.specs.Table.{IsTableOf};
 ghost use Rattle.grid.specs.declared.pos.Pos.{Pos};
 ghost use Rattle.lines.specs.ByVertex.{StandByVertex, count_at};
 ghost use Rattle.query.specs.Ends.{by_vertex, vertex_of};

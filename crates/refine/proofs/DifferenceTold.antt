@@ -18,16 +18,16 @@ use Rattle.shapes.specs.SetLaws.{items-from_list}
 use Rattle.shapes.specs.Sets as set
 use Rattle.shapes.specs.Union.{union}
 use Rattle.shapes.specs.declared.feature.Feature.{Feature}
-use Rattle.chains.specs.Arcs.{Arcs}
+use Rattle.arcs.specs.Arcs.{Arcs}
 use Rattle.chains.specs.Seen.{geometry_of}
-use Rattle.chains.specs.Table.{IsTableOf}
+use Rattle.arcs.specs.Table.{IsTableOf}
 use Rattle.theory.specs.Geometry.{Geometry, IsSound, JunctionOf}
 use Rattle.theory.specs.Lists.{Pairwise}
 use Rattle.theory.specs.Refinement.{IsUnionOf}
-use Rattle.renumbering.proofs.GeometryOrderLemmas.NodedTables.{table_noded}
-use Rattle.renumbering.specs.GeometryOrder.Noded.{AreNoded}
-use Rattle.split_arcs.specs.Cutting.{IsRecutOf}
-use Rattle.split_arcs.specs.Parts.{RecutParts}
+use Rattle.topo.proofs.GeometryOrderLemmas.NodedTables.{table_noded}
+use Rattle.topo.specs.GeometryOrder.Noded.{AreNoded}
+use Rattle.split_heal.specs.Cutting.{IsRecutOf}
+use Rattle.split_heal.specs.SplitParts.{RecutParts}
 use Rattle.topo.specs.Features.{HasFeature, IsFeatureOf}
 use Rattle.topo.specs.GeometryOrder.{HaveFeatures, LayersHaveFeatures, geometry_cmp}
 use Rattle.topo.specs.OfMap.{IsOf}
@@ -37,16 +37,16 @@ use Rattle.topo.proofs.FeatureOrder.{features_stand}
 use Rattle.topo.proofs.Pairs.{Pairwise-same}
 use Rattle.topo.proofs.Sound.{are_sound}
 use Rattle.topo.proofs.Stitched.{IsEntryOf, entries_of, feature_of}
-use Rattle.renumbering.specs.LayerLaws.CutLayers.{behind, layer_cmp, layer_recut, tied}
-use Rattle.renumbering.specs.LayerLaws.Cuts.{by_order}
-use Rattle.renumbering.specs.LayerLaws.Leaving.{from_on, is_first, layer_less, order_to, others}
-use Rattle.renumbering.proofs.LayerLawsLemmas.Ascending.{keys_ascend}
-use Rattle.renumbering.proofs.LayerLawsLemmas.JoinedLayers.{IsJoinedLayer, IsNewFor}
-use Rattle.renumbering.proofs.LayerLawsLemmas.JoinedPairs.{cut_layers, layers_have}
-use Rattle.renumbering.proofs.LayerLawsLemmas.MergedSets.{all_weaker, picked}
-use Rattle.renumbering.proofs.LayerLawsLemmas.Passing.{order_told}
-use Rattle.renumbering.proofs.LayerLawsLemmas.RecutGeometries.{IsLayerRecut, IsRecutFor}
-use Rattle.renumbering.proofs.LayerLawsLemmas.UnitedGeometry.{geometries_unite}
+use Rattle.topo.specs.LayerLaws.CutLayers.{behind, layer_cmp, layer_recut, tied}
+use Rattle.topo.specs.LayerLaws.Cuts.{by_order}
+use Rattle.topo.specs.LayerLaws.Leaving.{from_on, is_first, layer_less, order_to, others}
+use Rattle.topo.proofs.LayerLawsLemmas.Ascending.{keys_ascend}
+use Rattle.topo.proofs.LayerLawsLemmas.JoinedLayers.{IsJoinedLayer, IsNewFor}
+use Rattle.topo.proofs.LayerLawsLemmas.JoinedPairs.{cut_layers, layers_have}
+use Rattle.topo.proofs.LayerLawsLemmas.MergedSets.{all_weaker, picked}
+use Rattle.topo.proofs.LayerLawsLemmas.Passing.{order_told}
+use Rattle.topo.proofs.LayerLawsLemmas.RecutGeometries.{IsLayerRecut, IsRecutFor}
+use Rattle.topo.proofs.LayerLawsLemmas.UnitedGeometry.{geometries_unite}
 use Rattle.refine.specs.Difference.{HaveRecut, LayersHaveRecut, by_lists, cut_again, geometries_in, layer_without, layers_without}
 use Rattle.refine.proofs.JoinedParts.{left_after_recut, right_after_recut}
 

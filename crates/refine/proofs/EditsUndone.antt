@@ -3,9 +3,9 @@ use Rattle.std.proofs.Common.{◌∙◌, refl, sym, ap, subst}
 use Rattle.shapes.specs.Union.{union}
 use Rattle.refine.specs.EditLaws.{JoinsAreUndoneByEdits, OneEditIsAList}
 use Rattle.refine.specs.Edits.{IsEditedTo}
-use Rattle.renumbering.specs.LayerLaws.Less.{less}
-use Rattle.renumbering.specs.LayerLaws.OneMap.{one_map}
-use Rattle.renumbering.proofs.LayerLawsLemmas.JoinUndone.{join_undone}
+use Rattle.topo.specs.LayerLaws.Less.{less}
+use Rattle.topo.specs.LayerLaws.OneMap.{one_map}
+use Rattle.topo.proofs.LayerLawsLemmas.JoinUndone.{join_undone}
 
 pub one_edit : OneEditIsAList
 one_edit m e n = (λ (k, done, is). subst (IsEditedTo m e) (sym is) done, λ done. (n, done, refl))

@@ -6,27 +6,27 @@ use Rattle.grid.specs.declared.pos.Pos.{Pos}
 use Rattle.lines.specs.Turned.{position_cmp}
 use Rattle.shapes.specs.Maps.{Layers}
 use Rattle.shapes.specs.Union.{union}
-use Rattle.chains.specs.Arcs.{Arcs}
+use Rattle.arcs.specs.Arcs.{Arcs}
 use Rattle.chains.specs.Seen.{geometry_of, seen}
-use Rattle.chains.specs.Table.{IsTableOf}
+use Rattle.arcs.specs.Table.{IsTableOf}
 use Rattle.theory.specs.Geometry.{Geometry, IsSound, JunctionOf}
 use Rattle.theory.specs.Lists.{Pairwise}
 use Rattle.theory.specs.Refinement.{IsUnionOf}
 use Rattle.theory.specs.Topology.{IsLayerOf}
-use Rattle.renumbering.proofs.GeometryOrderLemmas.NodedTables.{table_noded}
-use Rattle.renumbering.specs.GeometryOrder.Noded.{AreNoded}
-use Rattle.split_arcs.specs.Cutting.{IsRecutOf}
-use Rattle.split_arcs.specs.Parts.{RecutParts}
+use Rattle.topo.proofs.GeometryOrderLemmas.NodedTables.{table_noded}
+use Rattle.topo.specs.GeometryOrder.Noded.{AreNoded}
+use Rattle.split_heal.specs.Cutting.{IsRecutOf}
+use Rattle.split_heal.specs.SplitParts.{RecutParts}
 use Rattle.topo.specs.OfMap.{ArePartsOf, IsOf, layer_of}
 use Rattle.topo.specs.Parts.{LayerParts, TopologyParts}
 use Rattle.topo.proofs.Sound.{are_sound}
-use Rattle.renumbering.specs.LayerLaws.Cuts.{entries_united}
+use Rattle.topo.specs.LayerLaws.Cuts.{entries_united}
 use Rattle.topo.specs.GeometryOrder.{LayersHaveFeatures}
-use Rattle.renumbering.specs.LayerLaws.CutLayers.{layer_recut, layers_merged}
-use Rattle.renumbering.proofs.LayerLawsLemmas.JoinedLayers.{IsJoinedLayer, parts_joined}
-use Rattle.renumbering.proofs.LayerLawsLemmas.JoinedPairs.{cut_layers, layers_have, layers_joined}
-use Rattle.renumbering.proofs.LayerLawsLemmas.RecutGeometries.{IsLayerRecut, layers_after_recut}
-use Rattle.renumbering.proofs.LayerLawsLemmas.UnitedGeometry.{geometries_unite}
+use Rattle.topo.specs.LayerLaws.CutLayers.{layer_recut, layers_merged}
+use Rattle.topo.proofs.LayerLawsLemmas.JoinedLayers.{IsJoinedLayer, parts_joined}
+use Rattle.topo.proofs.LayerLawsLemmas.JoinedPairs.{cut_layers, layers_have, layers_joined}
+use Rattle.topo.proofs.LayerLawsLemmas.RecutGeometries.{IsLayerRecut, layers_after_recut}
+use Rattle.topo.proofs.LayerLawsLemmas.UnitedGeometry.{geometries_unite}
 
 -- the layers of both sides of a recut
 module _ (m n : Layers) (left right : Arcs) (r : RecutParts) (is : IsRecutOf (geometry_of m) (geometry_of n) (geometry_of (union m n)) left right r) where

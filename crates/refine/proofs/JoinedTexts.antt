@@ -4,7 +4,7 @@ use Rattle.topo.specs.OfMap.{IsOf, seen_parts}
 use Rattle.topo.proofs.TopologyLaws.{is_computed}
 use Rattle.topo_io.specs.TopologyText.{topology_text}
 use Rattle.refine.specs.Removals.{JoinsAreUndone}
-use Rattle.renumbering.proofs.LayerLawsLemmas.JoinUndone.{join_undone}
+use Rattle.topo.proofs.LayerLawsLemmas.JoinUndone.{join_undone}
 
 pub joins_are_undone : JoinsAreUndone
 joins_are_undone m n apart t h =

@@ -7,7 +7,7 @@ use Rattle.lines.specs.Positions.{position_total, position_same}
 use Rattle.lines.specs.Turned.{position_cmp}
 use Rattle.lines.proofs.Positions.{position_dec}
 use Rattle.shapes.specs.Maps.{Layers}
-use Rattle.chains.specs.Arcs.{Arcs}
+use Rattle.arcs.specs.Arcs.{Arcs}
 use Rattle.chains.specs.Seen.{geometry_of, seen}
 use Rattle.chains.specs.Visits.{ends_of}
 use Rattle.chains.proofs.Gathered.{ends_has, has_ends}
@@ -30,10 +30,10 @@ use Rattle.theory.proofs.HealingKept.{list_ends}
 use Rattle.theory.proofs.HealingLists.{starts_once}
 use Rattle.theory.proofs.ValidMaps.{ends_list}
 use Rattle.theory.proofs.UsersOfArcs.{line_partner_back, partner_back}
-use Rattle.heal_arcs.specs.Parts.{RejoinedParts}
-use Rattle.heal_arcs.specs.Healing.{IsLeftBy, IsRejoinedOf}
-use Rattle.heal_arcs.specs.Starts.{starts_by}
-use Rattle.heal_arcs.proofs.Begun.{starts_are}
+use Rattle.split_heal.specs.HealedParts.{RejoinedParts}
+use Rattle.split_heal.specs.Healing.{IsLeftBy, IsRejoinedOf}
+use Rattle.split_heal.specs.Starts.{starts_by}
+use Rattle.split_heal.proofs.Begun.{starts_are}
 use Rattle.topo.specs.BodyLists.{body_lines, body_lists}
 use Rattle.topo.specs.OfMap.{ArePartsOf, IsOf, body_of, item_of, layer_of}
 use Rattle.topo.specs.Parts.{LayerParts, TopologyParts}
@@ -43,18 +43,18 @@ use Rattle.shapes.specs.declared.form.Form.TheVariants as to
 use Rattle.topo.specs.declared.geom.Geom.{Geom}
 use Rattle.topo.proofs.Sound.{are_sound}
 use Rattle.topo.proofs.Walks.{walked_stitched}
-use Rattle.renumbering.specs.LayerLaws.Leaving.{layer_less}
+use Rattle.topo.specs.LayerLaws.Leaving.{layer_less}
 use Rattle.refine.specs.Lent.{all_lent}
-use Rattle.renumbering.specs.LayerLaws.LeftLists.{both_ends, line_ends, marked_by}
+use Rattle.topo.specs.LayerLaws.LeftLists.{both_ends, line_ends, marked_by}
 use Rattle.refine.specs.LeftLists.{body_ends, body_refs, layer_ends, layer_refs, layers_ends, layers_refs}
 use Rattle.refine.specs.declared.remove.LayerLeft.{LayerLeft}
-use Rattle.renumbering.specs.LayerLaws.Less.{layer_rejoined, layers_left, less, marks_of}
+use Rattle.topo.specs.LayerLaws.Less.{layer_rejoined, layers_left, less, marks_of}
 use Rattle.refine.specs.Removals.{AreJoinedOf}
-use Rattle.renumbering.proofs.LayerLawsLemmas.LeftGeometries as left
-use Rattle.renumbering.proofs.LayerLawsLemmas.LeftMarks.{marks_tell}
-use Rattle.renumbering.proofs.LayerLawsLemmas.Passing.{pass_marks}
-use Rattle.renumbering.proofs.LayerLawsLemmas.RecutGeometries.{order}
-use Rattle.renumbering.proofs.LayerLawsLemmas.RejoinedLayers.{parts_left}
+use Rattle.topo.proofs.LayerLawsLemmas.LeftGeometries as left
+use Rattle.topo.proofs.LayerLawsLemmas.LeftMarks.{marks_tell}
+use Rattle.topo.proofs.LayerLawsLemmas.Passing.{pass_marks}
+use Rattle.topo.proofs.LayerLawsLemmas.RecutGeometries.{order}
+use Rattle.topo.proofs.LayerLawsLemmas.RejoinedLayers.{parts_left}
 
 -- ---- used arcs
 

@@ -11,11 +11,11 @@ use Rattle.lines.specs.Turned.{position_cmp}
 use Rattle.shapes.specs.Maps.{Features, Layers}
 use Rattle.shapes.specs.Sets as set
 use Rattle.shapes.specs.Union.{union}
-use Rattle.chains.specs.Arcs.{Arcs}
+use Rattle.arcs.specs.Arcs.{Arcs}
 use Rattle.chains.specs.ManyTables.{AreTablesOf, IsUnionOfAll}
 use Rattle.chains.specs.Seen as seen_by
 use Rattle.chains.specs.Seen.{geometry_of, seen}
-use Rattle.chains.specs.Table.{IsTableOf}
+use Rattle.arcs.specs.Table.{IsTableOf}
 use Rattle.theory.specs.Geometry.{Geometry, IsSound, JunctionOf}
 use Rattle.theory.specs.Lists.{Has, Pairwise, gathered}
 use Rattle.theory.specs.Refinement.{IsPartOf, IsRefinementOf}
@@ -24,16 +24,16 @@ use Rattle.theory.proofs.ListsOfLists.{Has-map, map_has}
 use Rattle.merging.specs.Laws.{union_associates, union_commutes, union_empty}
 use Rattle.merging.specs.Plans.{union_all}
 use Rattle.merging.proofs.PlanLemmas.{same_grid_same, union_all-append}
-use Rattle.renumbering.proofs.GeometryOrderLemmas.NodedTables.{table_noded}
-use Rattle.renumbering.specs.GeometryOrder.Noded.{AreNoded}
-use Rattle.renumbering.specs.LayerLaws.CutLayers.{layer_recut, layers_merged}
-use Rattle.renumbering.proofs.LayerLawsLemmas.JoinedLayers.{IsJoinedLayer}
-use Rattle.renumbering.proofs.LayerLawsLemmas.JoinedPairs.{cut_layers, layers_have, layers_joined}
-use Rattle.renumbering.proofs.LayerLawsLemmas.MergedLayers.{entries_of_union}
-use Rattle.renumbering.proofs.LayerLawsLemmas.RecutGeometries.{layers_after_recut}
-use Rattle.renumbering.proofs.LayerLawsLemmas.UnitedGeometry.{geometries_unite}
-use Rattle.split_arcs.specs.CuttingAll.{IsRecutOfAll}
-use Rattle.split_arcs.specs.PartsOfAll.{RecutAllParts, of_table}
+use Rattle.topo.proofs.GeometryOrderLemmas.NodedTables.{table_noded}
+use Rattle.topo.specs.GeometryOrder.Noded.{AreNoded}
+use Rattle.topo.specs.LayerLaws.CutLayers.{layer_recut, layers_merged}
+use Rattle.topo.proofs.LayerLawsLemmas.JoinedLayers.{IsJoinedLayer}
+use Rattle.topo.proofs.LayerLawsLemmas.JoinedPairs.{cut_layers, layers_have, layers_joined}
+use Rattle.topo.proofs.LayerLawsLemmas.MergedLayers.{entries_of_union}
+use Rattle.topo.proofs.LayerLawsLemmas.RecutGeometries.{layers_after_recut}
+use Rattle.topo.proofs.LayerLawsLemmas.UnitedGeometry.{geometries_unite}
+use Rattle.split_heal.specs.CuttingAll.{IsRecutOfAll}
+use Rattle.split_heal.specs.PartsOfAll.{RecutAllParts, of_table}
 use Rattle.topo.specs.GeometryOrder.{LayersHaveFeatures}
 use Rattle.topo.specs.OfMap.{ArePartsOf, IsOf, item_of, layer_of}
 use Rattle.topo.specs.Parts.{LayerParts, TopologyParts}

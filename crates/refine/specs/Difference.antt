@@ -2,14 +2,14 @@
 use Rattle.std.specs.Prelude.{List, [], ◌∷◌, Option, Some, None}
 use Rattle.std.specs.List.{AllByRecursion}
 use Rattle.std.specs.declared.cmp.Ordering.{Ordering}
-use Rattle.split_arcs.specs.Parts.{RecutParts}
+use Rattle.split_heal.specs.SplitParts.{RecutParts}
 use Rattle.topo.specs.Features.{HasFeature}
 use Rattle.topo.specs.GeometryOrder.{geometry_cmp}
 use Rattle.topo.specs.Parts.{LayerParts}
 use Rattle.topo.specs.declared.geom.Geom.{Geom}
-use Rattle.renumbering.specs.LayerLaws.CutLayers.{behind, layer_cmp, tied}
-use Rattle.renumbering.specs.LayerLaws.Cuts.{geometry_recut}
-use Rattle.renumbering.specs.LayerLaws.Leaving.{others}
+use Rattle.topo.specs.LayerLaws.CutLayers.{behind, layer_cmp, tied}
+use Rattle.topo.specs.LayerLaws.Cuts.{geometry_recut}
+use Rattle.topo.specs.LayerLaws.Leaving.{others}
 
 -- a geometry of the left side by the arcs of both
 abbrev pub cut_again : RecutParts → Geom → Geom

@@ -4,7 +4,7 @@ use Rattle.shapes.specs.Maps.{Layers}
 use Rattle.topo.specs.OfMap.{IsOf}
 use Rattle.topo.specs.Parts.{TopologyParts}
 use Rattle.refine.specs.Edits.{AreEditedTo, IsEditedTo}
-use Rattle.renumbering.specs.LayerLaws.Less.{IsApart}
+use Rattle.topo.specs.LayerLaws.Less.{IsApart}
 use Rattle.refine.specs.declared.edit.Edit.{Edit}
 use Rattle.refine.specs.declared.edit.Edit.TheVariants.{Join, Remove}
 

@@ -4,7 +4,7 @@ use Rattle.grid.specs.Place.{Transform}
 use Rattle.shapes.specs.Maps.{Layers}
 use Rattle.shapes.specs.Union.{union}
 use Rattle.topo.specs.OfMap.{IsOf}
-use Rattle.renumbering.specs.LayerLaws.Less.{less}
+use Rattle.topo.specs.LayerLaws.Less.{less}
 use Rattle.refine.specs.declared.edit.Edit.{Edit}
 use Rattle.refine.specs.declared.edit.Edit.TheVariants.{Join, Remove}
 use Rattle.merging.specs.declared.fault.JoinFault.{JoinFault}

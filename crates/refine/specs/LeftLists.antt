@@ -6,7 +6,7 @@ use Rattle.theory.specs.Lists.{gathered, joined}
 use Rattle.topo.specs.BodyLists.{body_lines, body_lists}
 use Rattle.topo.specs.Bodies.{Body}
 use Rattle.topo.specs.Parts.{LayerParts}
-use Rattle.renumbering.specs.LayerLaws.LeftLists.{line_ends}
+use Rattle.topo.specs.LayerLaws.LeftLists.{line_ends}
 
 -- the used arcs of a body
 abbrev pub body_refs : Body → List ArcRef

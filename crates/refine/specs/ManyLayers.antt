@@ -5,15 +5,15 @@ use Rattle.grid.specs.Place.{Transform}
 use Rattle.grid.specs.declared.pos.Pos.{Pos}
 use Rattle.lines.specs.Turned.{position_cmp}
 use Rattle.shapes.specs.Maps.{Layers}
-use Rattle.chains.specs.Arcs.{Arcs}
+use Rattle.arcs.specs.Arcs.{Arcs}
 use Rattle.chains.specs.Seen.{geometry_of, seen}
 use Rattle.theory.specs.Geometry.{JunctionOf}
 use Rattle.theory.specs.Lists.{Pairwise}
 use Rattle.theory.specs.Topology.{IsLayerOf}
 use Rattle.merging.specs.Meaning.{same_grid}
 use Rattle.refine.specs.OnGrid.{MapOnGrid}
-use Rattle.renumbering.specs.LayerLaws.CutLayers.{layer_recut}
-use Rattle.split_arcs.specs.PartsOfAll.{RecutAllParts, of_table}
+use Rattle.topo.specs.LayerLaws.CutLayers.{layer_recut}
+use Rattle.split_heal.specs.PartsOfAll.{RecutAllParts, of_table}
 use Rattle.topo.specs.OfMap.{ArePartsOf, layer_of}
 use Rattle.topo.specs.Parts.{LayerParts}
 

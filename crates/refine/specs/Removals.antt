@@ -12,7 +12,7 @@ use Rattle.topo.specs.OfMap.{IsOf, seen_parts}
 use Rattle.topo.specs.Parts.{TopologyParts}
 use Rattle.topo_io.specs.Canon.{canon}
 use Rattle.topo_io.specs.TopologyText.{topology_text}
-use Rattle.renumbering.specs.LayerLaws.Less.{IsApart, less}
+use Rattle.topo.specs.LayerLaws.Less.{IsApart, less}
 
 -- the new topology, and for each of its arcs the old ones that it is joined of
 pub record RemovalParts : Type 0 where

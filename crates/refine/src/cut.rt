@@ -1,12 +1,12 @@
 //! The join of two topologies: their arcs are cut again, their geometries follow the pieces, and
 //! the sorted layers and geometries of both are merged in one pass.
-ghost use Rattle.renumbering.specs.GeometryOrder.Noded.{AreNoded};
-ghost use Rattle.renumbering.specs.GeometryOrder.Noted.{IsNotedFor};
-ghost use Rattle.renumbering.specs.LayerLaws.CutLayers.{before, behind, layer_cmp, layer_recut, layers_as_one, layers_merged, tied, to_first, with_other};
-ghost use Rattle.renumbering.specs.LayerLaws.Cuts as cuts;
-ghost use Rattle.renumbering.specs.LayerLaws.ItsMap.{ItsMap, ItsMap-prop};
+ghost use Rattle.topo.specs.GeometryOrder.Noded.{AreNoded};
+ghost use Rattle.topo.specs.GeometryOrder.Noted.{IsNotedFor};
+ghost use Rattle.topo.specs.LayerLaws.CutLayers.{before, behind, layer_cmp, layer_recut, layers_as_one, layers_merged, tied, to_first, with_other};
+ghost use Rattle.topo.specs.LayerLaws.Cuts as cuts;
+ghost use Rattle.topo.specs.LayerLaws.ItsMap.{ItsMap, ItsMap-prop};
 ghost use Rattle.merging.specs.declared.fault.JoinFault.TheVariants.{OtherGrid};
-ghost use Rattle.split_arcs.specs.Parts.{of_side};
+ghost use Rattle.split_heal.specs.SplitParts.{of_side};
 ghost use Rattle.shapes.specs.Maps.{Layers};
 ghost use Rattle.shapes.specs.Union.{union};
 ghost use Rattle.std.specs.Prelude.{◌≡◌, ◌↔◌, ◌<◌, ◌^◌, ◌++◌, length, IfOk, IfSome, IsErrOf, OnOk, Option, None, true, take, drop, map as map_list};
@@ -18,14 +18,13 @@ ghost use Rattle.topo.specs.declared.geom.Geom.{Geom};
 use crate::fault::JoinFault;
 use chains::table::{ArcRef, ArcTable};
 use faults::OutOfMemory;
-use renumbering::geometry_order::GeometryOrder;
-use renumbering::{NewLists, layers_rewritten};
-use split_arcs::{Recut, Side, recut_owned};
+use split_heal::{Recut, Side, recut_owned};
 use std::alloc::Global;
 use std::cmp::Ordering;
 use std::collections::VecDeque;
 use std::marker::Model;
-use topo::{Geom, Layer, Topology};
+use topo::geometry_order::GeometryOrder;
+use topo::{Geom, Layer, NewLists, Topology, layers_rewritten};
 
 /// The lists of a side by the new arcs.
 #[derive(Drop)]

@@ -4,12 +4,12 @@ ghost use Rattle.grid.specs.Place.{Transform};
 ghost use Rattle.merging.specs.Plans.{union_all};
 ghost use Rattle.merging.specs.declared.fault.JoinFault.TheVariants as join_fault;
 ghost use Rattle.refine.specs.ManyLayers.{ArePartsOfAll, AreLayersOf, are_on, layers_in, layers_recut_from, maps_of};
-ghost use Rattle.renumbering.specs.GeometryOrder.Noded.{AreNoded};
-ghost use Rattle.renumbering.specs.LayerLaws.Cuts as cuts;
 ghost use Rattle.shapes.specs.Maps.{Layers};
-ghost use Rattle.split_arcs.specs.PartsOfAll.{of_table};
+ghost use Rattle.split_heal.specs.PartsOfAll.{of_table};
 ghost use Rattle.std.specs.Prelude.{◌≡◌, ◌<◌, ◌^◌, All, IfOk, IsOkUnless, List, length};
 ghost use Rattle.theory.specs.Lists.{Pairwise};
+ghost use Rattle.topo.specs.GeometryOrder.Noded.{AreNoded};
+ghost use Rattle.topo.specs.LayerLaws.Cuts as cuts;
 ghost use Rattle.topo.specs.OfMap.{IsOf};
 
 use crate::cut::{Cut, layers_of_both};
@@ -19,11 +19,10 @@ use faults::OutOfMemory;
 use grid::transform::Grid;
 use merging::shard::same_grid;
 use merging::{JoinMany, join_all};
-use renumbering::{NewLists, layers_rewritten};
-use split_arcs::{RecutAll, recut_all};
+use split_heal::{RecutAll, recut_all};
 use std::alloc::Global;
 use std::collections::VecDeque;
-use topo::{Layer, Topology};
+use topo::{Layer, NewLists, Topology, layers_rewritten};
 
 /// So many shards are joined two at a time: the boxes of two tables spare more than one index over both.
 const MOST_IN_PAIRS: usize = 2;

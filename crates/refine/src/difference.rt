@@ -1,9 +1,9 @@
 //! Taking the features of one topology out of another. The arcs of both are cut again under the junctions of
 //! both together; by those arcs two features are equal exactly where their ids, properties and lists of arcs
 //! are, so the lists say which geometries stay, and no feature is stitched.
-ghost use Rattle.renumbering.specs.GeometryOrder.Noded.{AreNoded};
-ghost use Rattle.renumbering.specs.GeometryOrder.Noted.{IsNotedFor};
-ghost use Rattle.renumbering.specs.LayerLaws.Leaving.{from_on, is_first, layer_less, others};
+ghost use Rattle.topo.specs.GeometryOrder.Noded.{AreNoded};
+ghost use Rattle.topo.specs.GeometryOrder.Noted.{IsNotedFor};
+ghost use Rattle.topo.specs.LayerLaws.Leaving.{from_on, is_first, layer_less, others};
 ghost use Rattle.refine.specs.Difference.{HaveRecut, LayersHaveRecut, by_lists, cut_again, geometries_in, layer_without, layers_without};
 ghost use Rattle.refine.specs.Lent.{all_lent, lent};
 ghost use Rattle.shapes.specs.Maps.{Layers};
@@ -16,13 +16,12 @@ use crate::cut::{SideLists, layers_recut, order_to_first_geometry, put_layers_be
 use crate::remove::LayerLeft;
 use chains::ArcTable;
 use faults::OutOfMemory;
-use renumbering::copy_rewritten;
-use renumbering::geometry_order::GeometryOrder;
-use split_arcs::{Recut, Side, recut_owned};
+use split_heal::{Recut, Side, recut_owned};
 use std::alloc::Global;
 use std::cmp::Ordering;
 use std::collections::VecDeque;
-use topo::{Geom, Layer, Topology};
+use topo::geometry_order::GeometryOrder;
+use topo::{Geom, Layer, Topology, copy_rewritten};
 
 /// Drops the others that come before a geometry by the same arcs, and answers whether it is one of them.
 fn is_first_left(

@@ -1,21 +1,21 @@
 //! The laws of merging, of taking features out and of edits, as contracts of functions that do nothing.
-//! Those of arcs that are split or healed are passed on from `split_arcs` and `heal_arcs`, and those that
+//! Those of arcs that are split or healed are passed on from `split_heal`, and those that
 //! need nothing of either from the crates below.
 ghost use Rattle.refine.specs.EditLaws.{JoinsAreUndoneByEdits, OneEditIsAList};
 ghost use Rattle.refine.specs.Removals.{JoinsAreUndone};
 ghost use Rattle.refine.specs.TextLaws.{MergedTextsMeanUnions};
 
-pub use heal_arcs::laws::{
-    kept_stand_once, one_pieces as one_pieces_of_new_arcs, others_stand_nowhere,
-};
 pub use merging::laws::{
     merge_of_all_alike, merge_of_all_meanings, merge_of_one_text, merges_alike,
     merges_through_texts, one_canon, plans_alike, segments_of_merge_once,
 };
-pub use renumbering::layer_laws::laws::equal_features_equal_lists;
-pub use split_arcs::laws::{
+pub use split_heal::healing_laws::{
+    kept_stand_once, one_pieces as one_pieces_of_new_arcs, others_stand_nowhere,
+};
+pub use split_heal::splitting_laws::{
     arcs_of_one_arc, junctions_of_both, no_other_arcs, one_pieces as one_pieces_of_old_arcs,
 };
+pub use topo::layer_laws::laws::equal_features_equal_lists;
 
 /// A merged text is accepted, and means the union of the named maps, where memory holds the topology of the
 /// union: stitching it by the standard gives exactly their features.

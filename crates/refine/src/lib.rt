@@ -21,5 +21,5 @@ pub use merge::{merge_borrowed_topologies, merge_texts, merge_topologies};
 pub use merging::{Plan, Shard, plan, run_plan, shard};
 pub use remove::{Removal, remove_topology};
 pub use session::Session;
-pub use split_arcs::{Recut, Side, recut};
+pub use split_heal::{Recut, Side, recut};
 pub use whole::Whole;

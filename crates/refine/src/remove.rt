@@ -1,15 +1,15 @@
 //! Taking features out of a topology: the geometries that stay keep their arcs, which are joined again
 //! where no junction is left. A geometry is stitched only where a removed feature has its id and properties.
-ghost use Rattle.renumbering.specs.LayerLaws.Leaving.{from_on, is_first, layer_less, order_to, others};
-ghost use Rattle.renumbering.specs.LayerLaws.LeftLists.{line_ends as ends_of_line, marked_by};
-ghost use Rattle.renumbering.specs.LayerLaws.Less as rejoined;
-ghost use Rattle.renumbering.specs.LayerLaws.Less.{less};
+ghost use Rattle.topo.specs.LayerLaws.Leaving.{from_on, is_first, layer_less, order_to, others};
+ghost use Rattle.topo.specs.LayerLaws.LeftLists.{line_ends as ends_of_line, marked_by};
+ghost use Rattle.topo.specs.LayerLaws.Less as rejoined;
+ghost use Rattle.topo.specs.LayerLaws.Less.{less};
 ghost use Rattle.lines.specs.Turned.{position_cmp};
 ghost use Rattle.merging.specs.declared.fault.JoinFault.TheVariants.{OtherGrid};
 ghost use Rattle.refine.specs.LeftLists.{body_ends, body_refs, layer_ends, layer_refs, layers_ends, layers_refs};
 ghost use Rattle.refine.specs.Lent.{all_lent, lent};
 ghost use Rattle.refine.specs.Removals.{IsWithoutBy};
-ghost use Rattle.heal_arcs.specs.Starts.{starts_by};
+ghost use Rattle.split_heal.specs.Starts.{starts_by};
 ghost use Rattle.shapes.specs.Maps.{Layers, features_at, set_of};
 ghost use Rattle.shapes.specs.Sets as set;
 ghost use Rattle.std.specs.Option.{option_map};
@@ -26,17 +26,16 @@ use crate::fault::JoinFault;
 use chains::table::{ArcRef, ArcTable};
 use faults::OutOfMemory;
 use grid::Pos;
-use heal_arcs::{ArcRun, HealedArcs, heal};
 use lines::items::Items;
-use renumbering::{NewLists, copy_rewritten};
 use shapes::feature::Feature;
 use shapes::feature_map::FeatureMap;
 use shapes::spelled::Spelled;
+use split_heal::{ArcRun, HealedArcs, heal};
 use std::alloc::Global;
 use std::cmp::Ordering;
 use std::collections::{BTreeSet, VecDeque};
 use std::marker::Model;
-use topo::{Body, Geom, Layer, Topology, stitching};
+use topo::{Body, Geom, Layer, NewLists, Topology, copy_rewritten, stitching};
 
 /// What is left of a topology, and the old arcs that each of its arcs is joined of.
 #[derive(Drop)]

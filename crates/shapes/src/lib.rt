@@ -1,7 +1,6 @@
 //! Features: ids, properties, shapes, and maps from layer names to sets of features.
 #![tactic(auto)]
 
-pub mod copying;
 pub mod feature;
 pub mod feature_map;
 mod fitting;
@@ -22,6 +21,7 @@ pub use feature_map::FeatureMap;
 pub use form::Form;
 pub use insert_fault::InsertFault;
 pub use layer::{FeatureLayer, feature_set};
+pub use lines::copying;
 pub use lines::items::Items;
 pub use lines::line::Line;
 pub use lines::ring::Ring;

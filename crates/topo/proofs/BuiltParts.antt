@@ -11,13 +11,14 @@ use Rattle.shapes.specs.Shapes as shapes
 use Rattle.shapes.specs.declared.form.Form.TheVariants as of
 use Rattle.lines.specs.declared.line.Line as the_line
 use Rattle.lines.specs.declared.ring.Ring as the_ring
-use Rattle.chains.specs.Arcs.{Arcs}
+use Rattle.arcs.specs.Arcs.{Arcs}
 use Rattle.chains.specs.Index.{IsIndexOf}
-use Rattle.chains.specs.Pieces.{chain_of, line_pieces, ring_pieces}
+use Rattle.arcs.specs.Pieces.{chain_of}
+use Rattle.chains.specs.Pieces.{line_pieces, ring_pieces}
 use Rattle.chains.specs.Seen as seen_by
 use Rattle.chains.specs.Seen.{line_of, ring_of, form_of, seen, geometry_of}
-use Rattle.chains.specs.Table.{ArePiecesOfMap, IsTableOf}
-use Rattle.chains.specs.declared.cutting.Piece.{Piece}
+use Rattle.arcs.specs.Table.{ArePiecesOfMap, IsTableOf}
+use Rattle.arcs.specs.declared.piece.Piece.{Piece}
 use Rattle.chains.proofs.TableOfMap.{are_pieces, line_list, ring_list}
 use Rattle.theory.specs.ArcNumbers.{ArcRef, StitchTo}
 use Rattle.theory.specs.Arcs.{AreSortedOnce}

@@ -20,3 +20,5 @@ pub mod SameBodies
 pub mod FeatureOrder
 pub mod SameGeometries
 pub mod SeenForms
+pub mod GeometryOrderLemmas
+pub mod LayerLawsLemmas

@@ -4,7 +4,7 @@ use Rattle.std.specs.Prelude.{map as map_list}
 use Rattle.grid.specs.declared.pos.Pos.{Pos}
 use Rattle.lines.specs.Turned.{position_cmp}
 use Rattle.shapes.specs.Maps.{Layers}
-use Rattle.chains.specs.Arcs.{Arcs}
+use Rattle.arcs.specs.Arcs.{Arcs}
 use Rattle.chains.specs.Seen.{Info, seen, geometry_of}
 use Rattle.theory.specs.Geometry.{Geometry, IsSound, IsChainOf, SegmentOf, JunctionOf}
 use Rattle.theory.specs.LinesAndRings.{around}

@@ -3,8 +3,8 @@ use Rattle.std.proofs.Common.{◌≡◌, ℕ, suc, ◌+◌, ◌-◌, ◌<◌, �
 use Rattle.std.proofs.Math.Seq.{drop-append_seam, drop-cons, take-append_seam}
 use Rattle.std.proofs.lemmas.List.{length-drop, length-reverse, reverse-append, take-append-drop, take_all}
 use Rattle.grid.specs.declared.pos.Pos.{Pos}
-use Rattle.chains.specs.Table.{same_list}
-use Rattle.chains.proofs.Places.{list_refl, list_true}
+use Rattle.arcs.specs.Table.{same_list}
+use Rattle.arcs.proofs.Places.{list_refl, list_true}
 
 tail_of : (x y : Pos) (l m : List Pos) → x ∷ l ≡ y ∷ m → l ≡ m
 tail_of x y l m e = cc

@@ -4,7 +4,7 @@ use Rattle.std.proofs.lemmas.Bool.{eqb-true}
 use Rattle.grid.specs.contracts.pos.PosPartialEq.TheImpl as pos_eq
 use Rattle.grid.specs.declared.pos.Pos.{Pos}
 use Rattle.lines.proofs.Positions.{both_true, derived_eq, position_eq_is, position_true}
-use Rattle.chains.specs.contracts.table.ArcRefPartialEq.TheImpl as ref_eq
+use Rattle.arcs.specs.contracts.table.ArcRefPartialEq.TheImpl as ref_eq
 use Rattle.theory.specs.ArcNumbers.{ArcRef}
 use Rattle.shapes.specs.declared.form.Form.TheVariants.{Null, Point, MultiPoint, Line, MultiLine, Polygon, MultiPolygon}
 use Rattle.topo.specs.Bodies.{Body}

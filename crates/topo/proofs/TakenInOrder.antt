@@ -15,8 +15,8 @@ use Rattle.shapes.specs.Shapes as shapes
 use Rattle.shapes.specs.declared.form.Form.TheVariants as of
 use Rattle.chains.specs.Pieces.{line_pieces, ring_pieces}
 use Rattle.chains.specs.Seen.{line_of, ring_of, form_of, item_of, layer_of, seen}
-use Rattle.chains.specs.Table.{located}
-use Rattle.chains.specs.declared.cutting.Piece.{Piece}
+use Rattle.arcs.specs.Table.{located}
+use Rattle.arcs.specs.declared.piece.Piece.{Piece}
 use Rattle.chains.proofs.Layers.{gathered-append}
 use Rattle.theory.specs.ArcNumbers.{ArcRef}
 use Rattle.theory.specs.Lists.{gathered, joined}

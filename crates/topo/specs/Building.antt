@@ -12,8 +12,8 @@ use Rattle.shapes.specs.declared.layer.FeatureLayer.{FeatureLayer}
 use Rattle.shapes.specs.Shapes as shapes
 use Rattle.chains.specs.Pieces.{line_pieces, ring_pieces}
 use Rattle.chains.specs.Seen.{line_of, ring_of, form_of}
-use Rattle.chains.specs.Table.{located}
-use Rattle.chains.specs.declared.cutting.Piece.{Piece}
+use Rattle.arcs.specs.Table.{located}
+use Rattle.arcs.specs.declared.piece.Piece.{Piece}
 use Rattle.theory.specs.ArcNumbers.{ArcRef}
 use Rattle.theory.specs.Lists.{gathered}
 use Rattle.theory.specs.Topology.{Shape, lines_in, rings_in}

@@ -1,4 +1,10 @@
 -- The order of geometries: that of the features that they stitch to.
+pub mod Least
+pub mod Lists
+pub mod Noded
+pub mod Noted
+pub mod Keys
+pub mod Sorting
 use Rattle.std.specs.Prelude.{ℕ, List}
 use Rattle.std.specs.Cmp.Lexicographic.{slice_cmp}
 use Rattle.std.specs.List.{AllByRecursion}

@@ -1,7 +1,7 @@
 -- The box that a topology keeps.
 use Rattle.std.specs.Prelude.{List, Option, ◌++◌}
 use Rattle.grid.specs.Place.{Transform}
-use Rattle.chains.specs.Arcs.{Arcs}
+use Rattle.arcs.specs.Arcs.{Arcs}
 use Rattle.theory.specs.Lists.{gathered, joined}
 use Rattle.topo.specs.Box.{box_of}
 use Rattle.topo.specs.Parts.{Corners, LayerParts}

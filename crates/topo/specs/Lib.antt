@@ -15,3 +15,5 @@ pub mod Taken
 pub mod Features
 pub mod ItsMap
 pub mod GeometryOrder
+pub mod Rewritten
+pub mod LayerLaws

@@ -3,7 +3,7 @@ use Rattle.std.specs.Prelude.{◌≡◌, ℕ, ℤ, List, Option}
 use Rattle.grid.specs.Place.{Transform}
 use Rattle.shapes.specs.declared.spelled.Spelled.{Spelled}
 use Rattle.shapes.specs.Parts.{spelled_text}
-use Rattle.chains.specs.Arcs.{Arcs}
+use Rattle.arcs.specs.Arcs.{Arcs}
 use Rattle.theory.specs.Lists.{Has}
 use Rattle.topo.specs.declared.geom.Geom.{Geom}
 

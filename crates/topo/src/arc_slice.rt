@@ -1,5 +1,5 @@
 //! What is left of an arc, to be read in the direction in which it is used.
-ghost use Rattle.chains.specs.Table.{same_list};
+ghost use Rattle.arcs.specs.Table.{same_list};
 ghost use Rattle.lines.specs.Pairs.{position_eq};
 ghost use Rattle.std.specs.Iterator.{YieldsFirstRef, YieldsLastRef};
 ghost use Rattle.std.specs.Prelude.{◌≡◌, ◌≤◌, ◌↔◌, [], true, drop, length, reverse, take};

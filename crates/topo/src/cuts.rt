@@ -1,7 +1,7 @@
 //! The lines and rings of a map, each cut once: all pieces, and how many each line and ring has.
+ghost use Rattle.arcs.specs.declared.piece.Piece as the_piece;
 ghost use Rattle.chains.specs.Pieces.{line_pieces, ring_pieces};
 ghost use Rattle.chains.specs.Seen.{line_of, ring_of, form_of, seen};
-ghost use Rattle.chains.specs.declared.cutting.Piece as the_piece;
 ghost use Rattle.grid.specs.declared.pos.Pos.{Pos};
 ghost use Rattle.shapes.specs.Maps.{set_of};
 ghost use Rattle.shapes.specs.Sets as set;

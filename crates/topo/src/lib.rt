@@ -8,7 +8,11 @@ mod building;
 mod cuts;
 mod expanding;
 pub mod geom;
+pub mod geometry_order;
+pub mod layer_laws;
+mod new_lists;
 pub mod order;
+mod rewritten;
 pub mod stitching;
 pub mod topology;
 pub mod walk;
@@ -16,6 +20,10 @@ pub mod writing;
 
 pub use arc_slice::ArcSlice;
 pub use geom::{Body, Geom};
+pub use new_lists::NewLists;
 pub use order::kind_order;
+pub use rewritten::{
+    copy_rewritten, geometries_rewritten, geometry_rewritten, layer_rewritten, layers_rewritten,
+};
 pub use topology::{Layer, Topology};
 pub use walk::Walk;

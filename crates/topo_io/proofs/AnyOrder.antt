@@ -14,7 +14,7 @@ use Rattle.theory.proofs.ListsOfLists.{Has-map, map_has}
 use Rattle.theory.proofs.UsersOfArcs.{partner, partner_back}
 use Rattle.reading.specs.Meant.{AreFeatures, AreLayers}
 use Rattle.reading.specs.Plain.{Plain, plain}
-use Rattle.chains.specs.Arcs.{Arcs}
+use Rattle.arcs.specs.Arcs.{Arcs}
 use Rattle.topo.specs.Features.{AreFeaturesOf, IsFeatureOf}
 use Rattle.topo.specs.OfMap.{ArePartsOf, IsOf}
 use Rattle.topo.specs.Parts.{LayerParts, TopologyParts}

@@ -15,7 +15,7 @@ use Rattle.lines.specs.declared.shape_fault.ShapeFault.TheVariants.{NotClosed, T
 use Rattle.reading.specs.Meant.{AreLayers}
 use Rattle.reading.specs.Outlines.{line_faults, outline_faults, ring_faults}
 use Rattle.reading.specs.Plain.{plain_id}
-use Rattle.renumbering.specs.Rewritten.{body_rewritten, geometry_rewritten}
+use Rattle.topo.specs.Rewritten.{body_rewritten, geometry_rewritten}
 use Rattle.shapes.specs.Ids.{HasI64}
 use Rattle.shapes.specs.Parts.{properties_text, spelled_text}
 use Rattle.theory.specs.ArcNumbers.{ArcRef}

@@ -7,7 +7,7 @@ use Rattle.grid.specs.declared.pos.Pos.{Pos}
 use Rattle.reading.specs.Fault.{LeastOrWant}
 use Rattle.reading.specs.FaultLists.Ascending.{IsAscending}
 use Rattle.shapes.specs.Maps.{Layers}
-use Rattle.chains.specs.Arcs.{Arcs}
+use Rattle.arcs.specs.Arcs.{Arcs}
 use Rattle.topo.specs.OfMap.{ArePartsOf}
 use Rattle.topo.specs.Parts.{LayerParts}
 use Rattle.validate.specs.Accept.Kept.{KeepLayers}

@@ -1,4 +1,4 @@
-//! Tests of the libraries of topologies: `topo`, `renumbering`, `validate` and `normalize`.
+//! Tests of the libraries of topologies: `topo`, `validate` and `normalize`.
 #![tactic(auto)]
 
 #[cfg(test)]

@@ -1,14 +1,14 @@
-//! Tests of the order of geometries of `renumbering`: those of a layer, which a build sorts by their
+//! Tests of the order of geometries of `topo`: those of a layer, which a build sorts by their
 //! features, ascend. The features tie by id and properties, and differ in their positions alone.
-ghost use Rattle.renumbering.specs.GeometryOrder.Noded.{AreNoded};
-ghost use Rattle.renumbering.specs.GeometryOrder.Noted.{IsNotedFor};
 ghost use Rattle.topo.specs.Features.{HasFeature};
+ghost use Rattle.topo.specs.GeometryOrder.Noded.{AreNoded};
+ghost use Rattle.topo.specs.GeometryOrder.Noted.{IsNotedFor};
 ghost use Rattle.topo.specs.GeometryOrder.{HaveFeatures};
 
 use chains::ArcTable;
-use renumbering::geometry_order::GeometryOrder;
 use std::alloc::Global;
 use std::test::Fail;
+use topo::geometry_order::GeometryOrder;
 use topo::{Geom, Topology};
 use worked_maps::{Drawn, FIRST, SECOND, THIRD, TRIANGLE, topology_of};
 

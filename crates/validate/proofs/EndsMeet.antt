@@ -10,10 +10,10 @@ use Rattle.lines.proofs.SortedLists.{Has-permutation, Up, up_from_sorted}
 use Rattle.theory.proofs.Lists.{Has-append, Has-append_left, Has-append_right}
 use Rattle.theory.specs.Lists.{EndOf, Has, gathered, last_of}
 use Rattle.theory.specs.Validity.{ThreeBegin}
-use Rattle.chains.specs.Among.{among}
-use Rattle.chains.specs.Arcs.{Arcs}
+use Rattle.arcs.specs.Among.{among}
+use Rattle.arcs.specs.Arcs.{Arcs}
 use Rattle.chains.specs.OfArcs.{table_as_map}
-use Rattle.chains.specs.Table.{is_loop}
+use Rattle.arcs.specs.Table.{is_loop}
 use Rattle.chains.proofs.Among.{among_has, has_among}
 use Rattle.chains.proofs.TablesAsMap.{has_open, open_has}
 use Rattle.validate.specs.ArcEnds.{EndsMeet, again, both_ends}

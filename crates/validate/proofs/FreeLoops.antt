@@ -26,10 +26,10 @@ use Rattle.theory.specs.Geometry.{AtMost, Geometry, IsChainOf, IsLineOf, IsSound
 use Rattle.theory.specs.LinesAndRings.{closed}
 use Rattle.theory.specs.Lists.{Beside, Distinct, EndOf, Has, gathered, last_of}
 use Rattle.theory.specs.Refinement.{OpenArc, arcs_as_map}
-use Rattle.chains.specs.Among.{Tells, among}
-use Rattle.chains.specs.Table.{IsTableOf, is_loop, is_loop_if, marked}
+use Rattle.arcs.specs.Among.{Tells, among}
+use Rattle.arcs.specs.Table.{IsTableOf, is_loop, is_loop_if, marked}
 use Rattle.chains.proofs.Among.{among_has, has_among}
-use Rattle.chains.proofs.Places.{any_has, has_any}
+use Rattle.arcs.proofs.Places.{any_has, has_any}
 use Rattle.validate.specs.Noding.{table_read}
 use Rattle.validate.specs.ArcEnds.{both_ends}
 use Rattle.validate.specs.FreeLoops.{AreLineEnds, ends_once, goes_free, stands_once}

@@ -6,9 +6,9 @@ use Rattle.theory.specs.Lists.{gathered}
 use Rattle.theory.specs.Refinement.{unclosed}
 use Rattle.theory.specs.Validity.{inner_of, insides}
 use Rattle.theory.specs.TopologyFunction.{keep}
-use Rattle.chains.specs.Arcs.{Arcs}
+use Rattle.arcs.specs.Arcs.{Arcs}
 use Rattle.chains.specs.OfArcs.{table_as_map}
-use Rattle.chains.specs.Table.{is_loop}
+use Rattle.arcs.specs.Table.{is_loop}
 use Rattle.validate.specs.Noding.{arc_inside}
 
 module _ {V : Type 0} (f : List V → Bool) where

@@ -11,9 +11,9 @@ use Rattle.theory.specs.ArcNumbers.{ArcRef, Uses}
 use Rattle.theory.specs.Geometry.{IsLineOf}
 use Rattle.theory.specs.Lists.{last_of}
 use Rattle.theory.specs.Validity.{BeginsLeast, Runs}
-use Rattle.chains.specs.Arcs.{Arcs}
+use Rattle.arcs.specs.Arcs.{Arcs}
 use Rattle.chains.specs.OfArcs.{table_as_map}
-use Rattle.chains.specs.Table.{free_at, is_loop_if}
+use Rattle.arcs.specs.Table.{free_at, is_loop_if}
 use Rattle.chains.proofs.TablesAsMap.{has_open, open_has}
 use Rattle.validate.specs.Lists.{GoesRound, LineStands, RingStands, none_free}
 use Rattle.validate.specs.UsedArcs.{each_unmarked}

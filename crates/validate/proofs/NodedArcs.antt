@@ -31,13 +31,13 @@ use Rattle.theory.specs.LinesAndRings.{closed}
 use Rattle.theory.specs.Lists.{Distinct, EndOf, Has, front_of, gathered, last_of}
 use Rattle.theory.specs.Refinement.{unclosed}
 use Rattle.theory.specs.Validity.{ArcsApart, ArcsStand, AreParted, insides}
-use Rattle.chains.specs.Among.{Tells, among}
-use Rattle.chains.specs.Arcs.{Arcs}
+use Rattle.arcs.specs.Among.{Tells, among}
+use Rattle.arcs.specs.Arcs.{Arcs}
 use Rattle.chains.specs.OfArcs.{table_as_map}
-use Rattle.chains.specs.Table.{IsTableOf, is_loop, is_loop_if}
-use Rattle.chains.specs.Stored.{rises}
+use Rattle.arcs.specs.Table.{IsTableOf, is_loop, is_loop_if}
+use Rattle.arcs.specs.Stored.{rises}
 use Rattle.chains.proofs.Among.{among_has, has_among}
-use Rattle.chains.proofs.AsTheyStand.{sorted_told}
+use Rattle.arcs.proofs.AsTheyStand.{sorted_told}
 use Rattle.chains.proofs.TablesAsMap.{has_loop, has_open, loop_has, open_has}
 use Rattle.validate.specs.Noding.{AreInOrder, arc_inside, begins_least, each_forward, arcs_are_valid, is_forward, none_before, is_valid_arc}
 use Rattle.validate.specs.EndTests.{both_are, each_ends, ends_are}

@@ -12,7 +12,7 @@ use Rattle.lines.specs.Reading.{is_closed}
 use Rattle.lines.specs.Turned.{position_cmp}
 use Rattle.lines.specs.Positions.{position_same}
 use Rattle.lines.proofs.Positions.{position_refl}
-use Rattle.chains.specs.Among.{among}
+use Rattle.arcs.specs.Among.{among}
 use Rattle.lines.proofs.Dropping.{drop_item}
 use Rattle.validate.specs.FreeLoops.{goes_free, stands_once}
 

@@ -6,8 +6,8 @@ use Rattle.theory.specs.Lists.{Has, last_of}
 use Rattle.theory.specs.Refinement.{unclosed}
 use Rattle.theory.specs.Validity.{inner_of}
 use Rattle.theory.proofs.Lists.{front-snoc}
-use Rattle.chains.specs.Among.{among}
-use Rattle.chains.specs.Table.{is_loop}
+use Rattle.arcs.specs.Among.{among}
+use Rattle.arcs.specs.Table.{is_loop}
 use Rattle.lines.proofs.Dropping.{drop_next}
 use Rattle.chains.proofs.TablesAsMap.{answered, given, unclosed_rest}
 use Rattle.validate.specs.Noding.{arc_inside, inside_if, is_valid_arc, stands_if}

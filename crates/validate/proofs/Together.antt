@@ -23,10 +23,10 @@ use Rattle.theory.specs.Lists.{Has, Pairwise, front_of, last_of}
 use Rattle.theory.specs.Refinement.{Alike, turned_used}
 use Rattle.theory.specs.Validity.{ArcsApart, ArcsStand, EndsList, InALine, InARing, IsListOfLine, IsListOfRing, Stands}
 use Rattle.theory.specs.Topology.{IsRingList}
-use Rattle.chains.specs.Among.{Tells}
-use Rattle.chains.specs.Arcs.{Arcs}
+use Rattle.arcs.specs.Among.{Tells}
+use Rattle.arcs.specs.Arcs.{Arcs}
 use Rattle.chains.specs.OfArcs.{table_as_map}
-use Rattle.chains.specs.Table.{IsTableOf, free_at}
+use Rattle.arcs.specs.Table.{IsTableOf, free_at}
 use Rattle.validate.specs.Lists.{LineStands, RingStands}
 use Rattle.validate.specs.ArcEnds.{from_to, line_ends}
 use Rattle.validate.specs.Chaining.{ends_along}

@@ -3,8 +3,8 @@ use Rattle.std.specs.Prelude.{Bool, true, not, ◌&&◌, ◌||◌, List, [], ◌
 use Rattle.std.specs.List.{list_all}
 use Rattle.grid.specs.declared.pos.Pos.{Pos}
 use Rattle.theory.specs.Lists.{last_of}
-use Rattle.chains.specs.Among.{among}
-use Rattle.chains.specs.Table.{is_loop}
+use Rattle.arcs.specs.Among.{among}
+use Rattle.arcs.specs.Table.{is_loop}
 use Rattle.validate.specs.declared.end_tests.EndsHaveToBe.{EndsHaveToBe}
 use Rattle.validate.specs.declared.end_tests.EndsHaveToBe.TheVariants.{Among, Apart}
 

@@ -6,7 +6,7 @@ use Rattle.lines.specs.Reading.{is_closed}
 use Rattle.lines.specs.Turned.{position_cmp}
 use Rattle.theory.specs.Geometry.{Geometry, IsLineOf}
 use Rattle.theory.specs.Lists.{EndOf, Has, last_of}
-use Rattle.chains.specs.Among.{among}
+use Rattle.arcs.specs.Among.{among}
 
 -- the ends of a list; of a closed one its first vertex alone
 abbrev pub ends_once : List Pos → List Pos

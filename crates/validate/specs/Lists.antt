@@ -4,8 +4,8 @@ use Rattle.std.specs.declared.cmp.Ordering.{Ordering}
 use Rattle.theory.specs.ArcNumbers.{ArcRef, Uses, UsesOnce}
 use Rattle.theory.specs.Geometry.{Geometry, IsLineOf}
 use Rattle.theory.specs.Validity.{BeginsLeast, Runs}
-use Rattle.chains.specs.Arcs.{Arcs}
-use Rattle.chains.specs.Table.{free_at}
+use Rattle.arcs.specs.Arcs.{Arcs}
+use Rattle.arcs.specs.Table.{free_at}
 
 -- a line's list: it is not empty, runs on, and uses no arc twice and none that is free
 pub record LineStands {V : Type 0} (arcs : List (List V)) (a : Geometry V) (refs : List ArcRef) : Type 0 where

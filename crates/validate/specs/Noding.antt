@@ -11,9 +11,9 @@ use Rattle.theory.specs.Geometry.{IsSound}
 use Rattle.theory.specs.Lists.{Has}
 use Rattle.theory.specs.Refinement.{unclosed}
 use Rattle.theory.specs.Validity.{ArcsApart, inner_of}
-use Rattle.chains.specs.Arcs.{Arcs}
+use Rattle.arcs.specs.Arcs.{Arcs}
 use Rattle.chains.specs.OfArcs.{table_as_map}
-use Rattle.chains.specs.Table.{IsTableOf, is_loop, marked}
+use Rattle.arcs.specs.Table.{IsTableOf, is_loop, marked}
 
 -- arcs as they are, of which those that are marked are free loops
 abbrev pub table_read : List (List Pos) → List Bool → Arcs

@@ -8,9 +8,9 @@ use Rattle.theory.specs.LinesAndRings.{IsRotation, closed}
 use Rattle.theory.specs.Lists.{Has, Pairwise, gathered}
 use Rattle.theory.specs.Validity.{ArcsApart, IsListOfLine, IsReadRing}
 use Rattle.theory.specs.Topology.{IsRingList}
-use Rattle.chains.specs.Arcs.{Arcs}
+use Rattle.arcs.specs.Arcs.{Arcs}
 use Rattle.chains.specs.OfArcs.{table_as_map}
-use Rattle.chains.specs.Table.{IsTableOf}
+use Rattle.arcs.specs.Table.{IsTableOf}
 use Rattle.validate.specs.Lists.{LineStands, RingStands}
 use Rattle.validate.specs.ArcEnds.{EndsMeet, line_ends}
 

@@ -1,5 +1,5 @@
 //! Vertices that are looked up in a sorted list: the ends of all arcs.
-ghost use Rattle.chains.specs.Among.{among};
+ghost use Rattle.arcs.specs.Among.{among};
 ghost use Rattle.lines.specs.Turned.{position_cmp};
 ghost use Rattle.validate.specs.EndTests as spec;
 ghost use Rattle.std.specs.List.Sorted.{IsSorted};

@@ -1,5 +1,5 @@
 //! Which arcs are free loops: closed arcs at whose seam nothing else ends.
-ghost use Rattle.chains.specs.Table.{IsTableOf};
+ghost use Rattle.arcs.specs.Table.{IsTableOf};
 ghost use Rattle.grid.specs.declared.pos.Pos.{Pos};
 ghost use Rattle.lines.specs.Reading as list;
 ghost use Rattle.lines.specs.Turned.{position_cmp};

@@ -1,5 +1,5 @@
 //! The index of visits over the arcs of many tables.
-ghost use Rattle.chains.specs.Arcs.{Arcs};
+ghost use Rattle.arcs.specs.Arcs.{Arcs};
 ghost use Rattle.chains.specs.Index.{IsIndexOf};
 ghost use Rattle.chains.specs.ManyTables.{AreTablesOf, IsUnionOfAll, UnmarkedStayWhole, all_as_map, all_marked_visits, arcs_of_all, marked_visits, piece_ends};
 ghost use Rattle.chains.specs.Noted.{visits_noted};
@@ -10,10 +10,10 @@ ghost use Rattle.theory.specs.Geometry.{Geometry};
 ghost use Rattle.theory.specs.Lists.{gathered};
 
 use super::{VisitIndex, VisitsSeen};
-use crate::cutting::Piece;
-use crate::marking::first_mark;
 use crate::recent::count_in_marked_pieces;
 use crate::repeats::mark_shared;
+use arcs::marking::first_mark;
+use arcs::piece::Piece;
 use faults::OutOfMemory;
 use std::alloc::{AllocError, Global};
 

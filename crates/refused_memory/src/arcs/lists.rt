@@ -8,7 +8,7 @@ use refused_calls::inputs::{built, is_of};
 use refused_calls::outcome::Tally;
 use refused_calls::tables::{Lends, Row, both};
 use refused_calls::texts::{SHARED_EDGE, THIRD, THREE};
-use split_arcs::{Recut, Side, recut, recut_all, recut_owned};
+use split_heal::{Recut, Side, recut, recut_all, recut_owned};
 use std::alloc::Global;
 use topo::Topology;
 
@@ -92,10 +92,10 @@ enum Call {
 }
 
 const ROWS: &[Row<Call>] = &[
-    ("split_arcs::recut_owned", Call::Owned),
+    ("split_heal::recut_owned", Call::Owned),
     ("Recut::line", Call::Line),
     ("Recut::ring", Call::Ring),
-    ("split_arcs::recut_all", Call::All),
+    ("split_heal::recut_all", Call::All),
     ("RecutAll::line", Call::LineOfAll),
     ("RecutAll::ring", Call::RingOfAll),
 ];

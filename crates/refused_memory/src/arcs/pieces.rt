@@ -165,8 +165,8 @@ const ROWS: &[Row<Call>] = &[
     ("chains::add_pieces", Call::Added),
     ("ArcTable::from_pieces", Call::Table),
     ("ArcTable::with_refs", Call::WithRefs),
-    ("chains::add_backwards", Call::Backwards),
-    ("chains::add_in_direction", Call::InDirection),
+    ("arcs::add_backwards", Call::Backwards),
+    ("arcs::add_in_direction", Call::InDirection),
 ];
 
 impl Lends for Cutting {

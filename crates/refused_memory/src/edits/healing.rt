@@ -2,7 +2,6 @@
 
 use chains::{ArcRef, ArcTable};
 use faults::OutOfMemory;
-use heal_arcs::{HealedArcs, heal};
 use refused_calls::calls::Lent;
 use refused_calls::comparing::{are_used, same_arcs};
 use refused_calls::inputs::{built, is_of, positions};
@@ -10,6 +9,7 @@ use refused_calls::outcome::Tally;
 use refused_calls::tables::both;
 use refused_calls::texts::{FIRST, Places, SHARED_EDGE};
 use refused_calls::{calls, layer};
+use split_heal::{HealedArcs, heal};
 use std::alloc::Global;
 use topo::Topology;
 
@@ -97,7 +97,7 @@ fn ring(alloc: Global, healed: &HealedMaps) -> Result<bool, OutOfMemory> {
 pub(crate) fn test(rt: &HostRuntime, tally: &mut Tally) {
     if let Some(healed) = tally.lent(rt, "healed arcs", "their maps", HealedMaps::of) {
         calls!(tally.attempt(rt, "healed arcs", &healed);
-            "heal_arcs::heal" => heal_first,
+            "split_heal::heal" => heal_first,
             "HealedArcs::line" => line,
             "HealedArcs::ring" => ring,
         );

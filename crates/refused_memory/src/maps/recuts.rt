@@ -7,7 +7,7 @@ use refused_calls::inputs::{built, is_of};
 use refused_calls::outcome::{Answer, Tally};
 use refused_calls::tables::both;
 use refused_calls::texts::{FREE_LOOP, LINE, LOOP_AND_LINE, SHARED_EDGE, THIRD, THREE};
-use split_arcs::{Recut, Side, recut};
+use split_heal::{Recut, Side, recut};
 use std::alloc::Global;
 use topo::Topology;
 
@@ -96,7 +96,7 @@ fn ask(alloc: Global, pair: &Pair) -> Answer {
 pub(crate) fn test(rt: &HostRuntime, tally: &mut Tally) {
     for row in ROWS {
         if let Some(pair) = tally.lent(rt, row.title, "recut", |alloc| Pair::of(alloc, row)) {
-            tally.ask(rt, row.title, &pair, "split_arcs::recut", ask);
+            tally.ask(rt, row.title, &pair, "split_heal::recut", ask);
         }
     }
 }

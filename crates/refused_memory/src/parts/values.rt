@@ -193,7 +193,7 @@ const ROWS: &[Row<Call>] = &[
     ("Ring::from_sound", Call::KnownRing),
     ("Spelled::copy", Call::CopyName),
     ("CopyIn::copy_in", Call::CopyIn),
-    ("shapes::copy_each", Call::CopyPlaces),
+    ("lines::copy_each", Call::CopyPlaces),
     ("Items::from_slice", Call::ClonePlaces),
     ("PositionFilter::clear", Call::ClearBits),
     ("PositionFilter::of", Call::BitsOf),

@@ -8,7 +8,7 @@ use Rattle.lines.specs.Turned.{position_cmp}
 use Rattle.theory.specs.ArcNumbers.{ArcRef, Uses}
 use Rattle.theory.specs.Lists.{Has, gathered}
 use Rattle.theory.proofs.Lists.{Has-append, Has-append_left, Has-append_right}
-use Rattle.chains.specs.Arcs.{Arcs}
+use Rattle.arcs.specs.Arcs.{Arcs}
 use Rattle.chains.specs.OfArcs.{table_as_map}
 use Rattle.chains.proofs.Layers.{gathered-append}
 use Rattle.validate.specs.Lists.{LineStands, RingStands}

@@ -10,8 +10,8 @@ use Rattle.theory.specs.Lists.{Has}
 use Rattle.topo.specs.Parts.{LayerParts}
 use Rattle.topo.specs.declared.geom.Geom.{Geom}
 use Rattle.topo.proofs.SameGeometries.{geometry_same}
-use Rattle.renumbering.proofs.GeometryOrderLemmas.KeysStand.{each_of, one_of}
-use Rattle.renumbering.specs.GeometryOrder.Sorting.{AreSortedOnce, same_geometry}
+use Rattle.topo.proofs.GeometryOrderLemmas.KeysStand.{each_of, one_of}
+use Rattle.topo.specs.GeometryOrder.Sorting.{AreSortedOnce, same_geometry}
 use Rattle.validate.specs.Accept.Laws.{HaveI64}
 use Rattle.validate.specs.Accept.Sorting.{AreReordered, AreSorted, IsReordered, IsSortedLayer}
 

@@ -6,7 +6,7 @@ use Rattle.shapes.specs.Maps.{Layers}
 use Rattle.theory.specs.Arcs.{Ascends}
 use Rattle.theory.specs.Lists.{gathered}
 use Rattle.theory.specs.Validity.{ArcsApart}
-use Rattle.chains.specs.Arcs.{Arcs}
+use Rattle.arcs.specs.Arcs.{Arcs}
 use Rattle.chains.specs.OfArcs.{table_as_map}
 use Rattle.validate.specs.Noding.{AreInOrder, IsApart, table_read}
 use Rattle.validate.specs.ArcEnds.{line_ends}

@@ -23,7 +23,7 @@ use Rattle.theory.proofs.ListsOfLists.{Has-joined}
 use Rattle.theory.proofs.Rotations.{rotation_back, rotation_ring, rotation_trans}
 use Rattle.theory.proofs.Turning.{least_list_found, rotation_listed, rotation_of}
 use Rattle.theory.proofs.UsersOfArcs.{partner_back}
-use Rattle.chains.specs.Arcs.{Arcs}
+use Rattle.arcs.specs.Arcs.{Arcs}
 use Rattle.topo.specs.Features.{HasFeature, IsLineOf, IsRingOf, IsShapeOf}
 use Rattle.topo.specs.GeometryOrder.{HaveFeatures, LayersHaveFeatures}
 use Rattle.topo.specs.Parts.{LayerParts}

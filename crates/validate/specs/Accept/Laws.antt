@@ -10,7 +10,7 @@ use Rattle.shapes.specs.Parts.{spelled_text}
 use Rattle.shapes.specs.Sets as set
 use Rattle.theory.specs.Lists.{Pairwise}
 use Rattle.theory.specs.Validity.{ArcsApart}
-use Rattle.chains.specs.Arcs.{Arcs}
+use Rattle.arcs.specs.Arcs.{Arcs}
 use Rattle.chains.specs.OfArcs.{table_as_map}
 use Rattle.topo.specs.Features.{AreFeaturesOf}
 use Rattle.topo.specs.GeometryOrder.{LayersHaveFeatures}

@@ -4,7 +4,7 @@ use Rattle.grid.specs.declared.pos.Pos.{Pos}
 use Rattle.theory.specs.Lists.{Has, Pairwise}
 use Rattle.topo.specs.Parts.{LayerParts}
 use Rattle.topo.specs.declared.geom.Geom.{Geom}
-use Rattle.renumbering.specs.GeometryOrder.Sorting.{AreSortedOnce}
+use Rattle.topo.specs.GeometryOrder.Sorting.{AreSortedOnce}
 
 -- the same name, and the same geometries, in another order or not, and as many times or not
 pub record IsReordered (l k : LayerParts) : Type 0 where

@@ -2,7 +2,7 @@
 use Rattle.std.specs.Prelude.{List, ◌++◌, map}
 use Rattle.grid.specs.declared.pos.Pos.{Pos}
 use Rattle.theory.specs.Lists.{gathered}
-use Rattle.chains.specs.Arcs.{Arcs}
+use Rattle.arcs.specs.Arcs.{Arcs}
 use Rattle.validate.specs.Noding.{table_read}
 use Rattle.validate.specs.ArcEnds.{line_ends}
 use Rattle.validate.specs.FreeLoops.{ends_once, goes_free}

@@ -1,15 +1,15 @@
 //! Whether layers are in order: their names, and in each the features of its geometries.
-ghost use Rattle.renumbering.specs.GeometryOrder.Noded.{AreNoded};
-ghost use Rattle.renumbering.specs.GeometryOrder.Noted.{IsNotedFor};
+ghost use Rattle.topo.specs.GeometryOrder.Noded.{AreNoded};
+ghost use Rattle.topo.specs.GeometryOrder.Noted.{IsNotedFor};
 ghost use Rattle.std.specs.Prelude.{◌≡◌, ◌↔◌, true, IfOk};
 ghost use Rattle.validate.specs.Accept.Order.{InOrder, each_rises, name_cmp, rises};
 ghost use Rattle.topo.specs.GeometryOrder.{HaveFeatures, LayersHaveFeatures, geometry_cmp};
 
 use chains::table::ArcTable;
 use faults::OutOfMemory;
-use renumbering::geometry_order::GeometryOrder;
 use std::alloc::Global;
 use std::cmp::Ordering;
+use topo::geometry_order::GeometryOrder;
 use topo::{Geom, Layer};
 
 fn name_order(layer: &Layer, other: &Layer) -> Ordering

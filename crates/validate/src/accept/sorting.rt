@@ -1,13 +1,13 @@
 //! Layers with their geometries sorted.
-ghost use Rattle.renumbering.specs.GeometryOrder.Noted.{IsNotedFor};
 ghost use Rattle.std.specs.Prelude.{IfOk};
+ghost use Rattle.topo.specs.GeometryOrder.Noted.{IsNotedFor};
 ghost use Rattle.validate.specs.Accept.Sorting.{AreSorted, IsSortedLayer};
 
 use chains::table::ArcTable;
 use faults::OutOfMemory;
-use renumbering::geometry_order::GeometryOrder;
 use std::alloc::Global;
 use topo::Layer;
+use topo::geometry_order::GeometryOrder;
 
 fn layer_sorted(
     alloc: Global,

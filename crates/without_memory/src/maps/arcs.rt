@@ -278,7 +278,7 @@ fn test_topology(rt: &HostRuntime, tally: &mut Tally, topology: &Topology) {
         "topo_io::is_text_of" => is_text(topology),
         "topo::is_same" => has_equal_places(topology),
         "merging::same_grid" => is_same_alone(topology.grid()),
-        "chains::is_rising" => is_rising(&[]),
+        "arcs::is_rising" => is_rising(&[]),
     );
 }
 
@@ -366,7 +366,7 @@ impl Cut {
         rows!(rt, tally;
             "ArcTable::arc" => has_arc(&self.topology),
             "ArcTable::find" => finds(&self.topology, self.pieces.as_slice()),
-            "chains::turn_ring" => turns(&self.topology),
+            "arcs::turn_ring" => turns(&self.topology),
             "VisitIndex::is_junction" => has_junctions(&self.index),
             "what was lent" => is_of(&self.topology, SHARED_EDGE),
         );

@@ -3,7 +3,6 @@
 use chains::{ArcRef, ArcTable};
 use faults::OutOfMemory;
 use grid::Grid;
-use heal_arcs::{HealedArcs, heal};
 use merging::Shard;
 use refine::remove::remove;
 use refine::{Cut, Edit, Removal, Session, Whole};
@@ -14,7 +13,7 @@ use refused_calls::outcome::Tally;
 use refused_calls::rows;
 use refused_calls::tables::both;
 use refused_calls::texts::{FIRST, SECOND, SHARED_EDGE, THIRD};
-use split_arcs::{Recut, RecutAll, Side, recut, recut_all};
+use split_heal::{HealedArcs, Recut, RecutAll, Side, heal, recut, recut_all};
 use std::alloc::Global;
 use topo::Topology;
 

@@ -138,8 +138,8 @@ fn test_others(rt: &HostRuntime, tally: &mut Tally, alloc: Global) {
         "ArcRef::from_index" => is_backwards(ArcRef::from_index(-3)),
         "ArcRef::index" => ArcRef::from_index(-3).index() == -3,
         "ArcRef::wide_index" => ArcRef::from_index(-3).wide_index() == -3,
-        "chains::is_marked" => is_marked(&[false, true], 1) && !is_marked(&[false, true], 0),
-        "chains::first_mark" => first_marks(),
+        "arcs::is_marked" => is_marked(&[false, true], 1) && !is_marked(&[false, true], 0),
+        "arcs::first_mark" => first_marks(),
     );
 }
 

@@ -1,9 +1,9 @@
 use Rattle.std.proofs.Common.{◌≡◌, Some, subst, sym, ap, ◌∙◌}
 use Rattle.theory.proofs.ListsOfLists.{get_has}
-use Rattle.chains.specs.Among.{among}
+use Rattle.arcs.specs.Among.{among}
 use Rattle.chains.specs.ArcPieces.{pieces_at, AreCutAt}
 use Rattle.chains.specs.OfArcs.{pieces_if, ArePiecesUnder}
-use Rattle.chains.specs.Table.{free_at, is_loop_if}
+use Rattle.arcs.specs.Table.{free_at, is_loop_if}
 use Rattle.chains.proofs.ArcParts.{are_cut}
 use Rattle.chains.proofs.ArcsCut.{part_pieces}
 use Rattle.chains.proofs.arc_cutting.cut_arc.Goals as goal

@@ -1,5 +1,5 @@
 use Rattle.std.proofs.Common.{sym, ap, ◌∙◌, ◌&&◌, ◌+◌, arith}
-use Rattle.chains.specs.Among.{among}
+use Rattle.arcs.specs.Among.{among}
 use Rattle.lines.proofs.Dropping.{item_at}
 use Rattle.chains.proofs.ArcParts.{goes, goes_not, part_stop, part_pass, part_last}
 use Rattle.chains.proofs.cutting.cut_inside.Goals as goal

@@ -1,6 +1,7 @@
 use Rattle.std.proofs.Common.{◌≡◌, ◌<◌, ◌≤◌, ◌++◌, length, false, map, drop, slice_range}
-use Rattle.chains.specs.Among.{among}
-use Rattle.chains.specs.Pieces.{cut_inside_from, open_pieces, piece_along}
+use Rattle.arcs.specs.Among.{among}
+use Rattle.chains.specs.Pieces.{cut_inside_from, open_pieces}
+use Rattle.arcs.specs.Pieces.{piece_along}
 use Rattle.chains.proofs.cutting.cut_inside.Given as goal
 
 abbrev pub invariant-loop-i : goal.invariant-loop-i

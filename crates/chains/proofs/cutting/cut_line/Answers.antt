@@ -1,6 +1,7 @@
 use Rattle.std.proofs.Common.{map, false, sym, subst, ap, ◌∙◌}
-use Rattle.chains.specs.Among.{among}
-use Rattle.chains.specs.Pieces.{cut_inside, line_pieces, used, ArePieces}
+use Rattle.arcs.specs.Among.{among}
+use Rattle.chains.specs.Pieces.{cut_inside, line_pieces}
+use Rattle.arcs.specs.Pieces.{used, ArePieces}
 use Rattle.chains.proofs.Oriented.{used_all}
 use Rattle.chains.proofs.Cuts.{line_is_cut}
 use Rattle.chains.proofs.TableOfMap.{line_good}

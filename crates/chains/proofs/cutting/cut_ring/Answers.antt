@@ -1,7 +1,8 @@
 use Rattle.std.proofs.Common.{map, not, sym, subst, ap, ◌∙◌}
 use Rattle.std.specs.List.{list_any}
-use Rattle.chains.specs.Among.{among}
-use Rattle.chains.specs.Pieces.{begun_ring, parts_round, ring_pieces, used, ArePieces}
+use Rattle.arcs.specs.Among.{among}
+use Rattle.chains.specs.Pieces.{begun_ring, parts_round, ring_pieces}
+use Rattle.arcs.specs.Pieces.{used, ArePieces}
 use Rattle.chains.proofs.Oriented.{used_all}
 use Rattle.chains.proofs.Cuts.{ring_is_cut}
 use Rattle.chains.proofs.TableOfMap.{ring_good}

@@ -1,5 +1,5 @@
 use Rattle.std.proofs.Common.{sym, ◌∙◌, arith}
-use Rattle.chains.specs.Among.{among}
+use Rattle.arcs.specs.Among.{among}
 use Rattle.lines.proofs.Dropping.{item_at}
 use Rattle.chains.proofs.LoopStops.{no_stop_found, none_found}
 use Rattle.chains.proofs.cutting.place_of_least_stop.Goals as goal

@@ -1,6 +1,7 @@
 use Rattle.std.proofs.Common.{◌≡◌, ◌∷◌, ◌∙◌, [], true, IfOk, ap, subst, sym, arith}
-use Rattle.chains.specs.Pieces.{open_pieces, piece_along}
-use Rattle.chains.specs.Among.{among}
+use Rattle.chains.specs.Pieces.{open_pieces}
+use Rattle.arcs.specs.Pieces.{piece_along}
+use Rattle.arcs.specs.Among.{among}
 use Rattle.lines.proofs.Dropping.{item_at}
 use Rattle.chains.proofs.LoopStops.{none_to_cut, ring_met, ring_unmet}
 use Rattle.chains.proofs.cutting.ring_cut.Goals as goal

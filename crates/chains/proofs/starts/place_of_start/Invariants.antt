@@ -1,6 +1,6 @@
 use Rattle.std.proofs.Common.{◌≡◌, ◌+◌, drop}
 use Rattle.chains.specs.Starts.{least_from, start_place, starts_from}
-use Rattle.chains.specs.Among.{among}
+use Rattle.arcs.specs.Among.{among}
 use Rattle.chains.proofs.starts.place_of_start.Given as goal
 
 abbrev pub invariant-loop-i : goal.invariant-loop-i

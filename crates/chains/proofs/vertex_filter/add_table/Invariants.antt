@@ -2,7 +2,7 @@ use Rattle.std.proofs.Common.{◌≡◌, ◌++◌, map}
 use Rattle.std.specs.List.{list_any}
 use Rattle.theory.specs.Lists.{gathered}
 use Rattle.theory.specs.TopologyFunction.{keep}
-use Rattle.chains.specs.Extents.{within}
+use Rattle.arcs.specs.Extents.{within}
 use Rattle.chains.proofs.vertex_filter.add_table.Given as goal
 
 abbrev pub invariant-loop-arc : goal.invariant-loop-arc

@@ -1,7 +1,7 @@
 use Rattle.std.proofs.Common.{◌≡◌, ◌++◌, ◌||◌, drop}
 use Rattle.std.specs.List.{list_any}
 use Rattle.theory.specs.TopologyFunction.{keep}
-use Rattle.chains.specs.Extents.{within}
+use Rattle.arcs.specs.Extents.{within}
 use Rattle.chains.proofs.vertex_filter.add_within.Given as goal
 
 abbrev pub invariant-loop-position : goal.invariant-loop-position

@@ -1,6 +1,6 @@
 use Rattle.std.proofs.Common.{ap, ◌∙◌, Some}
 use Rattle.std.specs.Option.{option_map}
-use Rattle.chains.proofs.Marks.{get_mapped}
+use Rattle.arcs.proofs.Marks.{get_mapped}
 use Rattle.lines.proofs.Dropping.{item_at}
 use Rattle.compare.specs.Keyed.{id_of}
 use Rattle.compare.proofs.keys.id_at.Goals as goal

@@ -1,5 +1,5 @@
 use Rattle.std.proofs.Common.{◌≡◌, ◌++◌, drop, map}
-use Rattle.renumbering.specs.Rewritten.{geometry_rewritten}
+use Rattle.topo.specs.Rewritten.{geometry_rewritten}
 use Rattle.normalize.proofs.copies.geometries_copied.Given as goal
 
 abbrev pub invariant-loop-geometry : goal.invariant-loop-geometry

@@ -1,5 +1,5 @@
 use Rattle.std.proofs.Common.{◌≡◌, ◌++◌, drop, map}
-use Rattle.renumbering.specs.Rewritten.{layer_rewritten}
+use Rattle.topo.specs.Rewritten.{layer_rewritten}
 use Rattle.normalize.proofs.copies.layers_copied.Given as goal
 
 abbrev pub invariant-loop-layer : goal.invariant-loop-layer

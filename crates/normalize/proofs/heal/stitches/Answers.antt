@@ -1,5 +1,5 @@
 use Rattle.std.proofs.Common.{◌∙◌, ap, slice_get}
-use Rattle.chains.specs.Arcs.{Arcs}
+use Rattle.arcs.specs.Arcs.{Arcs}
 use Rattle.normalize.proofs.Numbered.{numbered_stitch}
 use Rattle.normalize.proofs.heal.stitches.Goals as goal
 

@@ -1,5 +1,5 @@
 use Rattle.std.proofs.Common.{◌≡◌, IfSome, ap, map, subst, sym}
-use Rattle.chains.specs.Arcs.{Arcs}
+use Rattle.arcs.specs.Arcs.{Arcs}
 use Rattle.validate.specs.Accept.Kept.{KeepLayers}
 use Rattle.validate.specs.Accept.Laws.{HaveI64}
 use Rattle.normalize.specs.Lists.{layer_healed}

@@ -1,4 +1,4 @@
-use Rattle.chains.proofs.Merged.{emptied}
+use Rattle.arcs.proofs.Merged.{emptied}
 use Rattle.query.proofs.Sides.{judging_over, judging_starts, judging_step}
 use Rattle.query.proofs.stops.stops_by.Goals as goal
 

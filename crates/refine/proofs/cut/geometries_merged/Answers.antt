@@ -1,9 +1,9 @@
 use Rattle.std.proofs.Common.{◌≡◌, ◌++◌, sym, subst}
 use Rattle.std.specs.Vec.Iter.{into_iter_items}
-use Rattle.renumbering.specs.LayerLaws.Cuts.{merged}
+use Rattle.topo.specs.LayerLaws.Cuts.{merged}
 use Rattle.topo.specs.Features.{HasFeature}
 use Rattle.topo.specs.GeometryOrder.{HaveFeatures, geometry_cmp}
-use Rattle.renumbering.proofs.LayerLawsLemmas.MergedSteps.{all_behind, next_merged}
+use Rattle.topo.proofs.LayerLawsLemmas.MergedSteps.{all_behind, next_merged}
 use Rattle.refine.proofs.cut.geometries_merged.Goals as goal
 
 pub loop-geometry-preserved : goal.loop-geometry-preserved

@@ -1,8 +1,8 @@
 use Rattle.std.proofs.Common.{◌≡◌, ◌++◌}
 use Rattle.std.specs.Vec.Iter.{into_iter_items}
-use Rattle.renumbering.specs.LayerLaws.Cuts.{merged}
+use Rattle.topo.specs.LayerLaws.Cuts.{merged}
 use Rattle.topo.specs.GeometryOrder.{HaveFeatures, geometry_cmp}
-use Rattle.renumbering.specs.GeometryOrder.Noted.{IsNotedFor}
+use Rattle.topo.specs.GeometryOrder.Noted.{IsNotedFor}
 use Rattle.refine.proofs.cut.geometries_merged.Given as goal
 
 abbrev pub invariant-loop-geometry : goal.invariant-loop-geometry

@@ -1,8 +1,8 @@
 use Rattle.std.proofs.Common.{◌≡◌, ◌++◌, sym, subst, IfSome, rules}
 use Rattle.std.specs.Vec.Iter.{into_iter_items}
 use Rattle.topo.specs.GeometryOrder.{HaveFeatures, LayersHaveFeatures}
-use Rattle.renumbering.specs.LayerLaws.CutLayers.{layer_cmp, layers_as_one, layers_merged, with_other}
-use Rattle.renumbering.proofs.LayerLawsLemmas.MergedSteps.{all_behind, next_united, tied_has}
+use Rattle.topo.specs.LayerLaws.CutLayers.{layer_cmp, layers_as_one, layers_merged, with_other}
+use Rattle.topo.proofs.LayerLawsLemmas.MergedSteps.{all_behind, next_united, tied_has}
 use Rattle.refine.proofs.cut.layers_of_both.Goals as goal
 
 pub loop-layer-init : goal.loop-layer-init

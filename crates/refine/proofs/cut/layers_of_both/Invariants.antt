@@ -1,8 +1,8 @@
 use Rattle.std.proofs.Common.{◌≡◌, ◌++◌}
 use Rattle.std.specs.Vec.Iter.{into_iter_items}
-use Rattle.renumbering.specs.GeometryOrder.Noted.{IsNotedFor}
+use Rattle.topo.specs.GeometryOrder.Noted.{IsNotedFor}
 use Rattle.topo.specs.GeometryOrder.{LayersHaveFeatures}
-use Rattle.renumbering.specs.LayerLaws.CutLayers.{layers_merged}
+use Rattle.topo.specs.LayerLaws.CutLayers.{layers_merged}
 use Rattle.refine.proofs.cut.layers_of_both.Given as goal
 
 abbrev pub invariant-loop-layer : goal.invariant-loop-layer

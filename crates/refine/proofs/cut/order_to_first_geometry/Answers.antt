@@ -1,7 +1,7 @@
 use Rattle.std.proofs.Common.{subst}
 use Rattle.std.specs.List.{AllByRecursion}
 use Rattle.topo.specs.Features.{HasFeature}
-use Rattle.renumbering.proofs.LayerLawsLemmas.MergedSteps.{first_is}
+use Rattle.topo.proofs.LayerLawsLemmas.MergedSteps.{first_is}
 use Rattle.refine.proofs.cut.order_to_first_geometry.Goals as goal
 
 pub order-requires-clause-other_there : goal.order-requires-clause-other_there

@@ -1,7 +1,7 @@
 use Rattle.std.proofs.Common.{◌≡◌, ◌++◌, length}
-use Rattle.renumbering.specs.GeometryOrder.Noted.{IsNotedFor}
+use Rattle.topo.specs.GeometryOrder.Noted.{IsNotedFor}
 use Rattle.topo.specs.GeometryOrder.{HaveFeatures, geometry_cmp}
-use Rattle.renumbering.specs.LayerLaws.CutLayers.{before, behind}
+use Rattle.topo.specs.LayerLaws.CutLayers.{before, behind}
 use Rattle.refine.proofs.cut.put_before.Given as goal
 
 abbrev pub invariant-loop-others : goal.invariant-loop-others

@@ -1,5 +1,5 @@
 use Rattle.std.proofs.Common.{◌≡◌, ◌++◌, length}
-use Rattle.renumbering.specs.LayerLaws.CutLayers.{before, behind, layer_cmp, tied}
+use Rattle.topo.specs.LayerLaws.CutLayers.{before, behind, layer_cmp, tied}
 use Rattle.refine.proofs.cut.put_layers_before.Given as goal
 
 abbrev pub invariant-loop-others : goal.invariant-loop-others

@@ -1,5 +1,5 @@
 use Rattle.std.proofs.Common.{◌++◌, List}
-use Rattle.chains.specs.Arcs.{Arcs}
+use Rattle.arcs.specs.Arcs.{Arcs}
 use Rattle.topo.specs.Parts.{LayerParts}
 use Rattle.refine.specs.ManyLayers.{ArePartsOfAll, layers_in, maps_of}
 use Rattle.refine.proofs.cut_all.parts_of_all.Given as goal

@@ -1,9 +1,9 @@
 use Rattle.std.proofs.Common.{subst, sym}
 use Rattle.theory.specs.Lists.{Pairwise}
-use Rattle.chains.specs.Table.{IsTableOf}
+use Rattle.arcs.specs.Table.{IsTableOf}
 use Rattle.chains.specs.Seen.{geometry_of}
 use Rattle.merging.specs.Plans.{union_all}
-use Rattle.renumbering.specs.GeometryOrder.Noded.{AreNoded}
+use Rattle.topo.specs.GeometryOrder.Noded.{AreNoded}
 use Rattle.topo.specs.OfMap.{ArePartsOf}
 use Rattle.refine.specs.ManyLayers.{AreLayersOf, layers_in, maps_of}
 use Rattle.refine.proofs.ManyParts.{all_layers, all_noded, all_table}

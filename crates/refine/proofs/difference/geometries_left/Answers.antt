@@ -1,8 +1,8 @@
 use Rattle.std.proofs.Common.{◌++◌, ◌+◌, [], ◌∷◌, ◌∙◌, ap, drop, map, subst, sym}
 use Rattle.std.proofs.lemmas.List.{drop_more, map-append}
 use Rattle.topo.specs.Features.{HasFeature}
-use Rattle.renumbering.specs.LayerLaws.Leaving.{others}
-use Rattle.renumbering.proofs.LayerLawsLemmas.Passing.{at_place}
+use Rattle.topo.specs.LayerLaws.Leaving.{others}
+use Rattle.topo.proofs.LayerLawsLemmas.Passing.{at_place}
 use Rattle.refine.specs.Difference.{by_lists, cut_again}
 use Rattle.refine.proofs.DifferenceTold.{left_one, passed_one, stay_there}
 use Rattle.refine.proofs.difference.geometries_left.Goals as goal

@@ -1,7 +1,7 @@
 use Rattle.std.proofs.Common.{◌≡◌, ◌++◌, drop, map}
 use Rattle.topo.specs.GeometryOrder.{HaveFeatures}
-use Rattle.renumbering.specs.GeometryOrder.Noted.{IsNotedFor}
-use Rattle.renumbering.specs.LayerLaws.Leaving.{others}
+use Rattle.topo.specs.GeometryOrder.Noted.{IsNotedFor}
+use Rattle.topo.specs.LayerLaws.Leaving.{others}
 use Rattle.refine.specs.Difference.{by_lists}
 use Rattle.refine.proofs.difference.geometries_left.Given as goal
 

@@ -1,6 +1,6 @@
 use Rattle.std.proofs.Common.{◌≡◌, IfOk, OnOk, subst, sym}
-use Rattle.renumbering.specs.GeometryOrder.Noded.{AreNoded}
-use Rattle.renumbering.specs.GeometryOrder.Noted.{IsNotedFor}
+use Rattle.topo.specs.GeometryOrder.Noded.{AreNoded}
+use Rattle.topo.specs.GeometryOrder.Noted.{IsNotedFor}
 use Rattle.topo.specs.Features.{HasFeature}
 use Rattle.topo.specs.GeometryOrder.{HaveFeatures}
 use Rattle.refine.proofs.DifferenceTold.{first_by_lists, on_by_lists}

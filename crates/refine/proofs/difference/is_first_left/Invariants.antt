@@ -1,7 +1,7 @@
 use Rattle.std.proofs.Common.{◌≡◌, length}
-use Rattle.renumbering.specs.GeometryOrder.Noted.{IsNotedFor}
+use Rattle.topo.specs.GeometryOrder.Noted.{IsNotedFor}
 use Rattle.topo.specs.GeometryOrder.{HaveFeatures, geometry_cmp}
-use Rattle.renumbering.specs.LayerLaws.Leaving.{from_on}
+use Rattle.topo.specs.LayerLaws.Leaving.{from_on}
 use Rattle.refine.proofs.difference.is_first_left.Given as goal
 
 abbrev pub invariant-loop-others : goal.invariant-loop-others

@@ -1,8 +1,8 @@
 use Rattle.std.proofs.Common.{◌++◌, ◌+◌, [], ◌∷◌, ◌∙◌, ap, drop, subst, sym, rules}
 use Rattle.std.proofs.lemmas.List.{drop_more, map-append}
 use Rattle.topo.specs.GeometryOrder.{HaveFeatures, LayersHaveFeatures}
-use Rattle.renumbering.specs.LayerLaws.CutLayers.{layer_cmp, tied}
-use Rattle.renumbering.proofs.LayerLawsLemmas.MergedSteps.{all_behind, tied_has}
+use Rattle.topo.specs.LayerLaws.CutLayers.{layer_cmp, tied}
+use Rattle.topo.proofs.LayerLawsLemmas.MergedSteps.{all_behind, tied_has}
 use Rattle.refine.specs.Difference.{geometries_in, layers_without}
 use Rattle.refine.specs.Lent.{all_lent, lent}
 use Rattle.refine.proofs.DifferenceTold.{in_have, next_layer}

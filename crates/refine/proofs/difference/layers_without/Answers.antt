@@ -1,7 +1,7 @@
 use Rattle.std.proofs.Common.{◌≡◌, ◌∙◌, IfOk, map, subst}
 use Rattle.shapes.specs.Maps.{Layers}
 use Rattle.topo.specs.OfMap.{IsOf}
-use Rattle.renumbering.specs.LayerLaws.Leaving.{layer_less}
+use Rattle.topo.specs.LayerLaws.Leaving.{layer_less}
 use Rattle.refine.specs.Lent.{all_lent}
 use Rattle.refine.proofs.difference.layers_without.Goals as goal
 

@@ -1,6 +1,6 @@
 use Rattle.std.proofs.Common.{◌++◌, append_assoc, ap, sym, ◌∙◌}
 use Rattle.theory.specs.Lists.{gathered}
-use Rattle.renumbering.specs.LayerLaws.LeftLists.{line_ends}
+use Rattle.topo.specs.LayerLaws.LeftLists.{line_ends}
 use Rattle.refine.proofs.remove.add_ends_of_body.Goals as goal
 
 pub loop-used-preserved : goal.loop-used-preserved

@@ -1,7 +1,7 @@
 use Rattle.std.proofs.Common.{◌≡◌, ◌++◌}
 use Rattle.theory.specs.Lists.{gathered}
 use Rattle.topo.specs.BodyLists.{body_lines}
-use Rattle.renumbering.specs.LayerLaws.LeftLists.{line_ends}
+use Rattle.topo.specs.LayerLaws.LeftLists.{line_ends}
 use Rattle.refine.proofs.remove.add_ends_of_body.Given as goal
 
 abbrev pub invariant-loop-used : goal.invariant-loop-used

@@ -1,7 +1,7 @@
 use Rattle.std.proofs.Common.{◌++◌, map, refl}
 use Rattle.theory.specs.Lists.{gathered}
 use Rattle.refine.specs.LeftLists.{body_ends}
-use Rattle.renumbering.proofs.LayerLawsLemmas.LeftEnds.{note_step}
+use Rattle.topo.proofs.LayerLawsLemmas.LeftEnds.{note_step}
 use Rattle.refine.proofs.remove.add_ends_of_layer.Goals as goal
 
 pub loop-geometry-preserved : goal.loop-geometry-preserved

@@ -1,6 +1,6 @@
 use Rattle.std.proofs.Common.{◌∙◌, sym}
 use Rattle.topo.specs.Walked.{walked}
-use Rattle.renumbering.proofs.LayerLawsLemmas.LeftEnds.{noted_ends}
+use Rattle.topo.proofs.LayerLawsLemmas.LeftEnds.{noted_ends}
 use Rattle.refine.proofs.remove.add_ends_of_line.Goals as goal
 
 pub returns : goal.returns

@@ -1,6 +1,6 @@
 use Rattle.std.proofs.Common.{◌∙◌, ap, map}
 use Rattle.shapes.specs.Maps.{set_of}
-use Rattle.renumbering.proofs.LayerLawsLemmas.Passing.{none_under}
+use Rattle.topo.proofs.LayerLawsLemmas.Passing.{none_under}
 use Rattle.refine.proofs.remove.features_under.Goals as goal
 
 pub returns-in_default : goal.returns-in_default

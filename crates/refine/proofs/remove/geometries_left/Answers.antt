@@ -1,6 +1,6 @@
 use Rattle.std.proofs.Common.{subst, sym}
 use Rattle.topo.specs.Features.{HasFeature}
-use Rattle.renumbering.proofs.LayerLawsLemmas.Passing.{at_place}
+use Rattle.topo.proofs.LayerLawsLemmas.Passing.{at_place}
 use Rattle.refine.proofs.remove.geometries_left.Goals as goal
 
 pub is_next-requires : goal.is_next-requires

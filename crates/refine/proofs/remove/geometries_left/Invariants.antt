@@ -1,5 +1,5 @@
 use Rattle.std.proofs.Common.{◌≡◌, ◌++◌, drop, map}
-use Rattle.renumbering.specs.LayerLaws.Leaving.{order_to, others}
+use Rattle.topo.specs.LayerLaws.Leaving.{order_to, others}
 use Rattle.refine.proofs.remove.geometries_left.Given as goal
 
 abbrev pub invariant-loop-geometry : goal.invariant-loop-geometry

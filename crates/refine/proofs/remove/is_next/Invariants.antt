@@ -1,6 +1,6 @@
 use Rattle.std.proofs.Common.{◌≡◌, length, map}
 use Rattle.topo.specs.Features.{IsKnownOf}
-use Rattle.renumbering.specs.LayerLaws.Leaving.{from_on, order_to}
+use Rattle.topo.specs.LayerLaws.Leaving.{from_on, order_to}
 use Rattle.refine.proofs.remove.is_next.Given as goal
 
 abbrev pub invariant-loop-other : goal.invariant-loop-other

@@ -1,6 +1,6 @@
 use Rattle.std.proofs.Common.{◌≡◌, ◌++◌, drop, map}
-use Rattle.heal_arcs.specs.Starts.{starts_by}
-use Rattle.renumbering.specs.LayerLaws.Less.{geometry_rejoined}
+use Rattle.split_heal.specs.Starts.{starts_by}
+use Rattle.topo.specs.LayerLaws.Less.{geometry_rejoined}
 use Rattle.refine.proofs.remove.layer_rejoined.Given as goal
 
 abbrev pub invariant-loop-geometry : goal.invariant-loop-geometry

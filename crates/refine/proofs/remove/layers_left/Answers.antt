@@ -1,7 +1,7 @@
 use Rattle.std.proofs.Common.{◌++◌, ap, map}
-use Rattle.renumbering.specs.LayerLaws.Leaving.{layer_less}
+use Rattle.topo.specs.LayerLaws.Leaving.{layer_less}
 use Rattle.refine.specs.Lent.{all_lent}
-use Rattle.renumbering.proofs.LayerLawsLemmas.Passing.{all_have}
+use Rattle.topo.proofs.LayerLawsLemmas.Passing.{all_have}
 use Rattle.refine.proofs.remove.layers_left.Goals as goal
 
 pub loop-layer-init : goal.loop-layer-init

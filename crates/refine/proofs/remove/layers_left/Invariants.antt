@@ -1,6 +1,6 @@
 use Rattle.std.proofs.Common.{◌≡◌, ◌++◌, drop, map}
 use Rattle.topo.specs.GeometryOrder.{LayersHaveFeatures}
-use Rattle.renumbering.specs.LayerLaws.Leaving.{layer_less}
+use Rattle.topo.specs.LayerLaws.Leaving.{layer_less}
 use Rattle.refine.specs.Lent.{all_lent}
 use Rattle.refine.proofs.remove.layers_left.Given as goal
 

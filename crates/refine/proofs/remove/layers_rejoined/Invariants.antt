@@ -1,7 +1,7 @@
 use Rattle.std.proofs.Common.{◌≡◌, ◌++◌, drop, map}
-use Rattle.heal_arcs.specs.Starts.{starts_by}
+use Rattle.split_heal.specs.Starts.{starts_by}
 use Rattle.refine.specs.Lent.{all_lent}
-use Rattle.renumbering.specs.LayerLaws.Less.{layer_rejoined}
+use Rattle.topo.specs.LayerLaws.Less.{layer_rejoined}
 use Rattle.refine.proofs.remove.layers_rejoined.Given as goal
 
 abbrev pub invariant-loop-layer : goal.invariant-loop-layer

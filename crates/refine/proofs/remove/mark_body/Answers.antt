@@ -1,7 +1,7 @@
 use Rattle.std.proofs.Common.{ap, sym, ◌∙◌}
 use Rattle.theory.specs.Lists.{joined}
-use Rattle.renumbering.specs.LayerLaws.LeftLists.{marked_by}
-use Rattle.renumbering.proofs.LayerLawsLemmas.LeftMarks.{marked_join}
+use Rattle.topo.specs.LayerLaws.LeftLists.{marked_by}
+use Rattle.topo.proofs.LayerLawsLemmas.LeftMarks.{marked_join}
 use Rattle.refine.proofs.remove.mark_body.Goals as goal
 
 pub loop-used-preserved : goal.loop-used-preserved

@@ -1,7 +1,7 @@
 use Rattle.std.proofs.Common.{◌≡◌}
 use Rattle.theory.specs.Lists.{joined}
 use Rattle.topo.specs.BodyLists.{body_lists}
-use Rattle.renumbering.specs.LayerLaws.LeftLists.{marked_by}
+use Rattle.topo.specs.LayerLaws.LeftLists.{marked_by}
 use Rattle.refine.proofs.remove.mark_body.Given as goal
 
 abbrev pub invariant-loop-used : goal.invariant-loop-used

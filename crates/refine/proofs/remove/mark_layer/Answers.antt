@@ -1,8 +1,8 @@
 use Rattle.std.proofs.Common.{map}
 use Rattle.theory.specs.Lists.{gathered}
-use Rattle.renumbering.specs.LayerLaws.LeftLists.{marked_by}
+use Rattle.topo.specs.LayerLaws.LeftLists.{marked_by}
 use Rattle.refine.specs.LeftLists.{body_refs}
-use Rattle.renumbering.proofs.LayerLawsLemmas.LeftMarks.{mark_step, marked_join}
+use Rattle.topo.proofs.LayerLawsLemmas.LeftMarks.{mark_step, marked_join}
 use Rattle.refine.proofs.remove.mark_layer.Goals as goal
 
 pub loop-geometry-preserved : goal.loop-geometry-preserved

@@ -1,6 +1,6 @@
 use Rattle.std.proofs.Common.{◌≡◌, drop, map}
 use Rattle.theory.specs.Lists.{gathered}
-use Rattle.renumbering.specs.LayerLaws.LeftLists.{marked_by}
+use Rattle.topo.specs.LayerLaws.LeftLists.{marked_by}
 use Rattle.refine.specs.LeftLists.{body_refs}
 use Rattle.refine.proofs.remove.mark_layer.Given as goal
 

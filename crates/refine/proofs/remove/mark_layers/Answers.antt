@@ -1,7 +1,7 @@
 use Rattle.refine.specs.Lent.{all_lent, lent}
-use Rattle.renumbering.specs.LayerLaws.LeftLists.{marked_by}
+use Rattle.topo.specs.LayerLaws.LeftLists.{marked_by}
 use Rattle.refine.specs.LeftLists.{layer_refs, layers_refs}
-use Rattle.renumbering.proofs.LayerLawsLemmas.LeftMarks.{mark_step, marked_join}
+use Rattle.topo.proofs.LayerLawsLemmas.LeftMarks.{mark_step, marked_join}
 use Rattle.refine.proofs.remove.mark_layers.Goals as goal
 
 pub loop-layer-preserved : goal.loop-layer-preserved

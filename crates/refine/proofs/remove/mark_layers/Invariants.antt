@@ -1,6 +1,6 @@
 use Rattle.std.proofs.Common.{◌≡◌, drop}
 use Rattle.refine.specs.Lent.{all_lent}
-use Rattle.renumbering.specs.LayerLaws.LeftLists.{marked_by}
+use Rattle.topo.specs.LayerLaws.LeftLists.{marked_by}
 use Rattle.refine.specs.LeftLists.{layers_refs}
 use Rattle.refine.proofs.remove.mark_layers.Given as goal
 

@@ -1,5 +1,5 @@
 use Rattle.std.proofs.Common.{◌≡◌, drop}
-use Rattle.renumbering.specs.LayerLaws.LeftLists.{marked_by}
+use Rattle.topo.specs.LayerLaws.LeftLists.{marked_by}
 use Rattle.refine.proofs.remove.mark_list.Given as goal
 
 abbrev pub invariant-loop-arc : goal.invariant-loop-arc

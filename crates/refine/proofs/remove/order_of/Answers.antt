@@ -1,6 +1,6 @@
 use Rattle.std.proofs.Common.{◌∙◌, subst, sym}
 use Rattle.topo.specs.Features.{HasFeature, IsFeatureOf}
-use Rattle.renumbering.proofs.LayerLawsLemmas.Passing.{info_tells, info_told, order_told}
+use Rattle.topo.proofs.LayerLawsLemmas.Passing.{info_tells, info_told, order_told}
 use Rattle.refine.proofs.remove.order_of.Goals as goal
 
 pub returns-then-is_ne-clause-order : goal.returns-then-is_ne-clause-order

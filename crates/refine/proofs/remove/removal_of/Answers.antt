@@ -1,5 +1,5 @@
 use Rattle.std.proofs.Common.{◌∙◌, ap, refl}
-use Rattle.renumbering.specs.LayerLaws.Less.{less}
+use Rattle.topo.specs.LayerLaws.Less.{less}
 use Rattle.refine.proofs.LeftTold.{made_of, parts_made, pieces_made}
 use Rattle.refine.proofs.remove.removal_of.Goals as goal
 

@@ -2,7 +2,7 @@ use Rattle.std.proofs.Common.{IfOk, OnOk, refl, sym, subst}
 use Rattle.shapes.specs.Maps.{Layers}
 use Rattle.topo.specs.OfMap.{IsOf}
 use Rattle.refine.specs.Edits.{IsEditedTo, IsOnGrid}
-use Rattle.renumbering.specs.LayerLaws.Less.{less}
+use Rattle.topo.specs.LayerLaws.Less.{less}
 use Rattle.refine.proofs.EditsDone.{joined_is_edit, joined_on_grid}
 use Rattle.refine.proofs.session.apply_edit.Goals as goal
 

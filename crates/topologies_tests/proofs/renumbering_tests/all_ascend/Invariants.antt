@@ -1,5 +1,5 @@
 use Rattle.std.proofs.Common.{length}
-use Rattle.renumbering.specs.GeometryOrder.Noted.{IsNotedFor}
+use Rattle.topo.specs.GeometryOrder.Noted.{IsNotedFor}
 use Rattle.topo.specs.GeometryOrder.{HaveFeatures}
 use Rattle.topologies_tests.proofs.renumbering_tests.all_ascend.Given as goal
 

@@ -1,6 +1,6 @@
 use Rattle.std.proofs.Common.{subst, sym}
-use Rattle.renumbering.proofs.GeometryOrderLemmas.NodedTables.{table_noded}
-use Rattle.renumbering.specs.GeometryOrder.Noded.{AreNoded}
+use Rattle.topo.proofs.GeometryOrderLemmas.NodedTables.{table_noded}
+use Rattle.topo.specs.GeometryOrder.Noded.{AreNoded}
 use Rattle.topo.proofs.Stitched.{geometries_of}
 use Rattle.topo.specs.GeometryOrder.{HaveFeatures}
 use Rattle.topologies_tests.proofs.Features.{have_all}

@@ -1,5 +1,5 @@
 use Rattle.std.proofs.Common.{◌&&◌, ◌∙◌, ap, sym}
-use Rattle.chains.specs.Among.{among}
+use Rattle.arcs.specs.Among.{among}
 use Rattle.validate.specs.EndTests.{is_as}
 use Rattle.validate.proofs.Steps.{ends_told}
 use Rattle.validate.proofs.end_tests.both_are.Goals as goal

@@ -1,6 +1,6 @@
 use Rattle.std.proofs.Common.{◌∙◌, ◌&&◌, ◌+◌, ◌-◌, ap, drop, length, not, sym, take}
 use Rattle.std.specs.Result.{is_ok}
-use Rattle.chains.specs.Among.{among}
+use Rattle.arcs.specs.Among.{among}
 use Rattle.chains.proofs.Among.{told_among}
 use Rattle.chains.proofs.Search.{found}
 use Rattle.validate.proofs.Once.{never_once, once_at}

@@ -1,5 +1,5 @@
 use Rattle.std.proofs.Common.{◌∙◌, slice_get}
-use Rattle.chains.specs.Table.{is_loop}
+use Rattle.arcs.specs.Table.{is_loop}
 use Rattle.validate.specs.Noding.{is_valid_arc}
 use Rattle.validate.proofs.Steps.{all_step, all_stop, stands_given}
 use Rattle.validate.proofs.noding.arcs_are_valid.Goals as goal

@@ -4,8 +4,8 @@ use Rattle.theory.proofs.Turning.{has_keep}
 use Rattle.theory.specs.TopologyFunction.{keep}
 use Rattle.theory.specs.Lists.{Has, gathered}
 use Rattle.lines.specs.PositionFilter.{may_hold}
-use Rattle.chains.specs.Extents.{within}
-use Rattle.chains.proofs.Extents.{both_true}
+use Rattle.arcs.specs.Extents.{within}
+use Rattle.arcs.proofs.Extents.{both_true}
 use Rattle.chains.proofs.vertex_filter.VertexFilter.of.Goals as goal
 
 pub returns-clause-common : goal.returns-clause-common

@@ -3,7 +3,7 @@ use Rattle.theory.specs.Lists.{gathered}
 use Rattle.chains.specs.OfArcs.{arc_ends, tables_as_map}
 use Rattle.chains.specs.VertexFilter.{arc_shared, may_hold, HoldShared}
 use Rattle.chains.specs.Noted.{visits_noted}
-use Rattle.chains.proofs.Extents.{joined_keeps, joined_keeps_other}
+use Rattle.arcs.proofs.Extents.{joined_keeps, joined_keeps_other}
 use Rattle.chains.proofs.Same.{same_before, same_equal, same_refl, same_trans}
 use Rattle.chains.proofs.SharedVertices.{all_visits, left_whole, met_kept, right_whole, shared_held}
 use Rattle.chains.proofs.TablesAsMap.{visits_of_tables, tables_alike, index_alike}

@@ -1,7 +1,7 @@
 use Rattle.std.proofs.Common.{◌≡◌, ◌++◌, ◌∙◌, [], ap, sym, cond, subst, OnOk, IfOk}
 use Rattle.chains.specs.OfArcs.{ends_if}
 use Rattle.chains.specs.VertexFilter.{may_hold, meets, meets_if, met_visits, shared_if}
-use Rattle.chains.specs.Table.{is_loop_if}
+use Rattle.arcs.specs.Table.{is_loop_if}
 use Rattle.chains.specs.Visits.{HaveSame, ends_of}
 use Rattle.chains.specs.Noted.{visits_noted}
 use Rattle.chains.proofs.visits.VisitsSeen.see_numbered.Goals as goal

@@ -1,5 +1,5 @@
 use Rattle.std.proofs.Common.{◌∙◌, ◌∷◌, ◌++◌, ap, arith, map, subst, sym, take}
-use Rattle.chains.proofs.Merged.{emptied}
+use Rattle.arcs.proofs.Merged.{emptied}
 use Rattle.compare.specs.Quality.Found.{places_at}
 use Rattle.compare.specs.Quality.Near.{Ascend, are_near, near_to}
 use Rattle.compare.proofs.QualityLemmas.Nearness.{all_past}

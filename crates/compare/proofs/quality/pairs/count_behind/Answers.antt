@@ -1,5 +1,5 @@
 use Rattle.std.proofs.Common.{ap, arith, rules, length, subst, sym, ◌∙◌, ◌∷◌, ◌<◌, ◌^◌}
-use Rattle.chains.proofs.Merged.{emptied}
+use Rattle.arcs.proofs.Merged.{emptied}
 use Rattle.compare.specs.Quality.Near.{Ascend, are_near, near_to}
 use Rattle.compare.proofs.QualityLemmas.Nearness.{all_past}
 use Rattle.compare.proofs.QualityLemmas.Walking.{at_most_one, met_length, near_few}

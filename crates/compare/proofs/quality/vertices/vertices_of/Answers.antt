@@ -1,5 +1,5 @@
 use Rattle.std.proofs.Common.{refl}
-use Rattle.chains.proofs.Merged.{emptied}
+use Rattle.arcs.proofs.Merged.{emptied}
 use Rattle.compare.proofs.QualityLemmas.Grouping.{all_grouped, grouped_step, ordered_starts, ordered_step, starts}
 use Rattle.compare.proofs.quality.vertices.vertices_of.Goals as goal
 

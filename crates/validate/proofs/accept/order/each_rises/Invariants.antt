@@ -1,5 +1,5 @@
 use Rattle.std.proofs.Common.{◌≡◌, drop}
-use Rattle.renumbering.specs.GeometryOrder.Noted.{IsNotedFor}
+use Rattle.topo.specs.GeometryOrder.Noted.{IsNotedFor}
 use Rattle.topo.specs.GeometryOrder.{LayersHaveFeatures}
 use Rattle.validate.specs.Accept.Order as spec
 use Rattle.validate.proofs.accept.order.each_rises.Given as goal

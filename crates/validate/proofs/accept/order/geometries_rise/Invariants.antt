@@ -1,5 +1,5 @@
 use Rattle.std.proofs.Common.{◌≡◌, ◌∷◌, drop}
-use Rattle.renumbering.specs.GeometryOrder.Noted.{IsNotedFor}
+use Rattle.topo.specs.GeometryOrder.Noted.{IsNotedFor}
 use Rattle.topo.specs.GeometryOrder.{HaveFeatures, geometry_cmp}
 use Rattle.validate.specs.Accept.Order.{rises}
 use Rattle.validate.proofs.accept.order.geometries_rise.Given as goal

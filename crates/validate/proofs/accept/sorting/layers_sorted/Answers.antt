@@ -1,5 +1,5 @@
 use Rattle.std.proofs.Common.{rules, sym, ◌∙◌}
-use Rattle.chains.proofs.Merged.{emptied}
+use Rattle.arcs.proofs.Merged.{emptied}
 use Rattle.validate.proofs.AcceptLemmas.Sorted.{sorted_all, sorted_more, sorted_none}
 use Rattle.validate.proofs.accept.sorting.layers_sorted.Goals as goal
 

@@ -1,4 +1,4 @@
-use Rattle.renumbering.specs.GeometryOrder.Noted.{IsNotedFor}
+use Rattle.topo.specs.GeometryOrder.Noted.{IsNotedFor}
 use Rattle.validate.proofs.AcceptLemmas.Sorted.{Rest}
 use Rattle.validate.proofs.accept.sorting.layers_sorted.Given as goal
 

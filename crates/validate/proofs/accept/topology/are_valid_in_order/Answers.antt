@@ -1,5 +1,5 @@
 use Rattle.chains.specs.OfArcs.{table_as_map}
-use Rattle.renumbering.proofs.GeometryOrderLemmas.NodedTables.{table_noded}
+use Rattle.topo.proofs.GeometryOrderLemmas.NodedTables.{table_noded}
 use Rattle.validate.proofs.NodedArcs.{is_table}
 use Rattle.validate.proofs.AcceptLemmas.StitchedFeatures.{geometries_have_features}
 use Rattle.validate.proofs.accept.topology.are_valid_in_order.Goals as goal

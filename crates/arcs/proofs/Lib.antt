@@ -1,0 +1,16 @@
+pub mod ArcsOfPieces
+pub mod ArcsHeld
+pub mod Places
+pub mod Rising
+pub mod AsTheyStand
+pub mod Merged
+pub mod Marks
+pub mod Looking
+pub mod Numbered
+pub mod KeysFirst
+pub mod PlacedPieces
+pub mod Extents
+pub mod TurnedLists
+pub mod LeastUsed
+pub mod Backwards
+pub mod Steps

@@ -1,0 +1,11 @@
+pub mod Among
+pub mod Holding
+pub mod Extents
+pub mod Keys
+pub mod Arcs
+pub mod Table
+pub mod Stored
+pub mod Placing
+pub mod Turning
+pub mod Pieces
+pub mod Steps

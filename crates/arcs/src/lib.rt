@@ -1,0 +1,24 @@
+//! The table of a map's arcs: pieces in their least direction, sorted, each once, and used arcs by their
+//! numbers.
+#![tactic(auto)]
+
+mod arcs_box;
+mod key;
+pub mod marking;
+mod merging;
+mod numbering;
+pub mod ordered;
+pub mod piece;
+mod shared_positions;
+pub mod step;
+mod stored;
+pub mod table;
+pub mod table_arcs;
+pub mod turning;
+pub mod used_arcs;
+
+pub use arcs_box::Extent;
+pub use piece::Piece;
+pub use step::Step;
+pub use table::{ArcRef, ArcTable};
+pub use turning::turn_ring;

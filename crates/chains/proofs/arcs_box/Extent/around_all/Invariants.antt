@@ -1,9 +1,0 @@
-use Rattle.std.proofs.Common.{drop, ◌⊎◌}
-use Rattle.theory.specs.Lists.{Has}
-use Rattle.chains.specs.Arcs.{Arcs}
-use Rattle.chains.specs.Extents.{within}
-use Rattle.chains.specs.Holding.{HoldAll}
-use Rattle.chains.proofs.arcs_box.Extent.around_all.Given as goal
-
-abbrev pub invariant-loop-table : goal.invariant-loop-table
-invariant-loop-table l = (t : Arcs) → Has t l.fn.tables → Has t (drop l.table-index l.fn.tables) ⊎ HoldAll (within l.extent) t.arcs

@@ -1,6 +1,0 @@
-use Rattle.chains.specs.Extents.{within}
-use Rattle.chains.proofs.Sharing.{ArcsAreLeft}
-use Rattle.chains.proofs.arcs_box.Extent.find.Given as goal
-
-abbrev pub invariant-loop-arc : goal.invariant-loop-arc
-invariant-loop-arc l = ArcsAreLeft (within l.extent) l.fn.table.arcs l.arc-iterator

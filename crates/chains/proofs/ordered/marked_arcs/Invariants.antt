@@ -1,6 +1,0 @@
-use Rattle.std.proofs.Common.{◌≡◌, ◌++◌}
-use Rattle.chains.specs.Stored.{with_marks}
-use Rattle.chains.proofs.ordered.marked_arcs.Given as goal
-
-abbrev pub invariant-loop-positions : goal.invariant-loop-positions
-invariant-loop-positions l = l.made ++ with_marks l.positions-iterator.rest.items l.left ≡ with_marks l.fn.arcs.items l.fn.marks

@@ -1,9 +1,0 @@
-use Rattle.std.proofs.Common.{ap, sym, ◌∙◌}
-use Rattle.chains.specs.Table.{free_at}
-use Rattle.chains.proofs.Marks.{free_told}
-use Rattle.chains.proofs.table.ArcTable.is_free.Goals as goal
-
-pub returns-in-Some : goal.returns-in-Some
-returns-in-Some c =
-    free_told c.self.inside.arcs c.self.invariant.rising c.args.number c.in-Some.arc.now (sym c.in-Some.ensures)
-    ∙ ap (λ t. free_at t c.args.number) c.self.view_is

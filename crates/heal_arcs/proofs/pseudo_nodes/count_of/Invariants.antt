@@ -1,7 +1,0 @@
-use Rattle.std.proofs.Common.{◌≡◌, ◌+◌, drop}
-use Rattle.lines.specs.ByVertex.{count_at}
-use Rattle.heal_arcs.specs.PseudoNodes.{vertex_of}
-use Rattle.heal_arcs.proofs.pseudo_nodes.count_of.Given as goal
-
-abbrev pub invariant-loop-i : goal.invariant-loop-i
-invariant-loop-i l = l.i + count_at vertex_of l.fn.vertex (drop l.i l.fn.ends) ≡ count_at vertex_of l.fn.vertex l.fn.ends

@@ -1,9 +1,0 @@
-use Rattle.heal_arcs.specs.PseudoNodes.{partner_in}
-use Rattle.heal_arcs.specs.Walks.{ArePaired, AreWalked}
-use Rattle.heal_arcs.proofs.WalkedRuns.{Begun}
-use Rattle.heal_arcs.proofs.walking.Walker.add_open_runs.Given as goal
-
-abbrev pub invariant-loop-arc : goal.invariant-loop-arc
-invariant-loop-arc l =
-    (p : ArePaired l.fn.kept (partner_in l.fn.meeting)) → AreWalked l.fn.kept (partner_in l.fn.meeting) l.fn.self.left.items l.fn.self.runs.items →
-    Begun l.fn.kept (partner_in l.fn.meeting) p l.arc l.self.left.items l.self.runs.items

@@ -1,2 +1,0 @@
-pub mod GeometryOrderLemmas
-pub mod LayerLawsLemmas

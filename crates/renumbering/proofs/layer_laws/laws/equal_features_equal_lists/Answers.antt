@@ -1,5 +1,0 @@
-use Rattle.renumbering.proofs.LayerLawsLemmas.EqualLists.{equal_features_equal_lists}
-use Rattle.renumbering.proofs.layer_laws.laws.equal_features_equal_lists.Goals as goal
-
-pub returns : goal.returns
-returns c = equal_features_equal_lists

@@ -1,3 +1,0 @@
-pub mod GeometryOrder
-pub mod Rewritten
-pub mod LayerLaws

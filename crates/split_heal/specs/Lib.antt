@@ -1,0 +1,16 @@
+pub mod Bounds
+pub mod SplitParts
+pub mod PartsOfAll
+pub mod Cutting
+pub mod CuttingAll
+pub mod SplittingLaws
+pub mod HealedParts
+pub mod ArcRuns
+pub mod Choosing
+pub mod ArcUseMap
+pub mod PseudoNodes
+pub mod Walks
+pub mod Healing
+pub mod HealedArcs
+pub mod Starts
+pub mod HealingLaws
