@@ -13,3 +13,4 @@ pub mod Extents
 pub mod TurnedLists
 pub mod LeastUsed
 pub mod Backwards
+pub mod Steps

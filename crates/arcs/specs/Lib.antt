@@ -8,3 +8,4 @@ pub mod Stored
 pub mod Placing
 pub mod Turning
 pub mod Pieces
+pub mod Steps

@@ -10,6 +10,7 @@ mod numbering;
 pub mod ordered;
 pub mod piece;
 mod shared_positions;
+pub mod step;
 mod stored;
 pub mod table;
 pub mod table_arcs;
@@ -18,5 +19,6 @@ pub mod used_arcs;
 
 pub use arcs_box::Extent;
 pub use piece::Piece;
+pub use step::Step;
 pub use table::{ArcRef, ArcTable};
 pub use turning::turn_ring;

@@ -36,10 +36,10 @@ use Rattle.topo.specs.declared.geom.Geom.{Geom}
 use Rattle.topo.specs.GeometryOrder.{body_form, body_rank, form_cmp, form_rank, geometry_cmp, info_cmp, kind_cmp, vertices_used}
 
 module _ (arcs : List (List Pos)) where
-  line_form : (l : the_line.Line) (used : List ArcRef) → IsLineOf arcs l used → line_of l ≡ walked arcs used
+  pub line_form : (l : the_line.Line) (used : List ArcRef) → IsLineOf arcs l used → line_of l ≡ walked arcs used
   line_form l used h = sym (walked_stitched arcs used (positions_of l) h)
 
-  ring_form : (r : the_ring.Ring) (used : List ArcRef) → IsRingOf arcs r used → vertices_seen r ≡ vertices_used arcs used
+  pub ring_form : (r : the_ring.Ring) (used : List ArcRef) → IsRingOf arcs r used → vertices_seen r ≡ vertices_used arcs used
   ring_form r used (q, turned, h) = sym (ap (ring_of position_cmp) (walked_stitched arcs used (closed q) h) ∙ (ring_reads r q turned).1)
 
   rings_form : (rs : List the_ring.Ring) (lists : List (List ArcRef)) → Pairwise (IsRingOf arcs) rs lists → map_list vertices_seen rs ≡ map_list (vertices_used arcs) lists
@@ -144,8 +144,3 @@ equal_bodies_tie arcs f a b r h e n same =
 
 pub id_derived_is : (a b : Id) → id.cmp-value.it a b ≡ id_cmp a b
 id_derived_is a b = search rules
-
--- from what the comparisons of ids, of properties and of kinds answer
-pub kind_from : (a b : Geom) (r s x y z : Ordering) → r ≡ ordering_then s z → s ≡ ordering_then x y → x ≡ id.cmp-value.it a.id b.id → y ≡ slice_cmp nat_cmp a.props.text b.props.text →
-    z ≡ nat_cmp (body_rank a.body) (body_rank b.body) → r ≡ kind_cmp a b
-kind_from a b r s x y z e d p q k = e ∙ (λ i. ordering_then ((d ∙ (λ j. ordering_then ((p ∙ id_derived_is a.id b.id) j) (q j))) i) (k i))

@@ -1,8 +1,6 @@
 -- The order of geometries: that of the features that they stitch to.
-pub mod Steps
 pub mod Least
 pub mod Lists
-pub mod Bodies
 pub mod Noded
 pub mod Noted
 pub mod Keys

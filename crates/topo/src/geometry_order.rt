@@ -10,6 +10,5 @@ mod least;
 mod lists;
 mod order;
 mod sorting;
-mod step;
 
 pub use order::GeometryOrder;

@@ -1,12 +1,12 @@
 //! The order of geometries by what they have without their arcs.
 ghost use Rattle.std.specs.Prelude.{◌≡◌};
-ghost use Rattle.topo.specs.GeometryOrder.{body_rank, kind_cmp};
+ghost use Rattle.topo.specs.GeometryOrder.{body_rank, info_cmp, kind_cmp};
 
 use crate::geom::{Body, Geom};
 use std::cmp::Ordering;
 
 /// The number of a body's kind, in the order of kinds.
-fn rank(body: &Body) -> u8
+pub(crate) fn rank(body: &Body) -> u8
     ensures { result ≡ body_rank body.now }
 {
     match body {
@@ -20,14 +20,20 @@ fn rank(body: &Body) -> u8
     }
 }
 
-/// The order of two geometries by what they have without their arcs: by id, then by properties, then by
-/// kind. Where it doesn't tie, it is the order of their features.
-pub fn kind_order(geometry: &Geom, other: &Geom) -> Ordering
-    ensures { result ≡ kind_cmp geometry.now other.now }
+/// The order of two geometries by id, then by properties.
+pub(crate) fn info_order(geometry: &Geom, other: &Geom) -> Ordering
+    ensures { result ≡ info_cmp geometry.now other.now }
 {
     geometry
         .id
         .cmp(&other.id)
         .then(geometry.props.cmp(&other.props))
-        .then(rank(&geometry.body).cmp(&rank(&other.body)))
+}
+
+/// The order of two geometries by what they have without their arcs: by id, then by properties, then by
+/// kind. Where it doesn't tie, it is the order of their features.
+pub fn kind_order(geometry: &Geom, other: &Geom) -> Ordering
+    ensures { result ≡ kind_cmp geometry.now other.now }
+{
+    info_order(geometry, other).then(rank(&geometry.body).cmp(&rank(&other.body)))
 }

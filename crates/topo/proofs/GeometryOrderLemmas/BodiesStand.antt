@@ -1,106 +1,96 @@
--- Bodies of one kind stand as their lists of used arcs, over arcs that are noded.
-use Rattle.std.proofs.Common.{◌≡◌, false, List, [], ◌∷◌, refl, sym, ap, ◌∙◌, arith}
+-- Bodies stand as their lists of used arcs, over arcs that are noded.
+use Rattle.std.proofs.Common.{◌≡◌, false, List, [], ◌∷◌, refl, sym, ap, ◌∙◌}
+use Rattle.std.specs.Prelude.{map as map_list}
+use Rattle.std.specs.Cmp.Derive.Mapped.{lex_map}
 use Rattle.std.specs.Cmp.Lexicographic.{slice_cmp}
-use Rattle.std.specs.FinMap.{nat_cmp-IsAntisymmetric}
+use Rattle.std.specs.List.{AllByRecursion}
 use Rattle.std.specs.Ordering.{is_ne, nat_cmp, ordering_then}
 use Rattle.std.specs.declared.cmp.Ordering.{Ordering}
 use Rattle.std.specs.declared.cmp.Ordering.TheVariants.{Less, Equal, Greater}
 use Rattle.grid.specs.declared.pos.Pos.{Pos}
-use Rattle.lines.specs.Turned.{list_cmp, position_cmp}
+use Rattle.lines.specs.Turned.{list_cmp}
 use Rattle.lines.specs.declared.line.Line as the_line
 use Rattle.lines.specs.declared.ring.Ring as the_ring
-use Rattle.shapes.specs.Order.{line_cmp, ring_cmp, shape_cmp}
 use Rattle.shapes.specs.Shapes as shapes
 use Rattle.shapes.specs.declared.form.Form.TheVariants as of
 use Rattle.theory.specs.ArcNumbers.{ArcRef}
 use Rattle.theory.specs.Lists.{Pairwise}
-use Rattle.topo.proofs.FeatureOrder.{shape_form, shapes_by_form}
+use Rattle.topo.proofs.FeatureOrder.{line_form, ring_form}
 use Rattle.topo.specs.Features.{HasFeature, IsLineOf, IsRingOf, IsShapeOf}
-use Rattle.topo.specs.GeometryOrder.{body_form, body_rank, form_cmp, geometry_cmp, info_cmp, kind_cmp}
+use Rattle.topo.specs.GeometryOrder.{body_form, body_rank, form_cmp, geometry_cmp, info_cmp, kind_cmp, vertices_used}
+use Rattle.topo.specs.Walked.{walked}
 use Rattle.topo.specs.Bodies as bodies
 use Rattle.topo.specs.declared.geom.Geom.{Geom}
 use Rattle.topo.proofs.GeometryOrderLemmas.RingsStand.{lines_stand, rings_stand}
-use Rattle.topo.specs.GeometryOrder.Bodies.{bodies_cmp}
 use Rattle.topo.specs.GeometryOrder.Least.{least_of}
-use Rattle.topo.specs.GeometryOrder.Lists.{line_refs_cmp, ring_refs_cmp}
+use Rattle.topo.specs.GeometryOrder.Lists.{bodies_cmp, line_refs_cmp, ring_refs_cmp}
 use Rattle.topo.specs.GeometryOrder.Noded.{AreNoded}
+use Rattle.topo.specs.LayerLaws.OneMap.{is_line, is_lines, is_polygon, is_polygons}
 
--- lists stand as what they are paired with
-slices_stand : {A B : Type 0} (R : A → B → Type 0) (f : A → A → Ordering) (g : B → B → Ordering) → ((x y : A) (u v : B) → R x u → R y v → f x y ≡ g u v) →
-    (xs ys : List A) (us vs : List B) → Pairwise R xs us → Pairwise R ys vs → slice_cmp f xs ys ≡ slice_cmp g us vs
-slices_stand R f g e [] [] [] [] h k = refl
-slices_stand R f g e [] (y ∷ ys) [] (v ∷ vs) h k = refl
-slices_stand R f g e (x ∷ xs) [] (u ∷ us) [] h k = refl
-slices_stand R f g e (x ∷ xs) (y ∷ ys) (u ∷ us) (v ∷ vs) h k =
-    (λ i. ordering_then (e x y u v h.0 k.0 i) (slices_stand R f g e xs ys us vs h.1 k.1 i))
-slices_stand R f g e [] ys (u ∷ us) vs h k = absurd h
-slices_stand R f g e (x ∷ xs) ys [] vs h k = absurd h
-slices_stand R f g e xs [] us (v ∷ vs) h k = absurd k
-slices_stand R f g e xs (y ∷ ys) us [] h k = absurd k
+-- where lists are paired with others, each has one that is paired with it
+each_has : {A B : Type 0} (R : A → B → Type 0) (xs : List A) (us : List B) → Pairwise R xs us → AllByRecursion (λ u. (x : A) × R x u) us
+each_has R xs [] h = tt
+each_has R [] (u ∷ us) h = absurd h
+each_has R (x ∷ xs) (u ∷ us) h = ((x, h.0), each_has R xs us h.1)
+
+-- orders that agree on members agree on lists of them
+slices_agree : {A : Type 0} (P : A → Type 0) (f g : A → A → Ordering) → ((u v : A) → P u → P v → f u v ≡ g u v) → (us vs : List A) →
+    AllByRecursion P us → AllByRecursion P vs → slice_cmp f us vs ≡ slice_cmp g us vs
+slices_agree P f g e [] [] h k = refl
+slices_agree P f g e [] (v ∷ vs) h k = refl
+slices_agree P f g e (u ∷ us) [] h k = refl
+slices_agree P f g e (u ∷ us) (v ∷ vs) h k = λ i. ordering_then (e u v h.0 k.0 i) (slices_agree P f g e us vs h.1 k.1 i)
 
 module _ (arcs : List (List Pos)) (noded : AreNoded arcs) where
-  of_lines : (k l : the_line.Line) (us vs : List ArcRef) → IsLineOf arcs k us → IsLineOf arcs l vs → line_cmp k l ≡ line_refs_cmp arcs (least_of arcs) us vs
-  of_lines = lines_stand arcs noded
+  abbrev HasLine : List ArcRef → Type 0
+  HasLine us = (l : the_line.Line) × IsLineOf arcs l us
 
-  of_rings : (r s : the_ring.Ring) (us vs : List ArcRef) → IsRingOf arcs r us → IsRingOf arcs s vs → ring_cmp r s ≡ ring_refs_cmp arcs (least_of arcs) us vs
-  of_rings = rings_stand arcs noded
+  abbrev HasRing : List ArcRef → Type 0
+  HasRing us = (r : the_ring.Ring) × IsRingOf arcs r us
 
-  nulls : (s t : shapes.Shape) → IsShapeOf arcs s of.Null → IsShapeOf arcs t of.Null → shape_cmp s t ≡ Equal
-  nulls of.Null of.Null h k = refl
-  nulls of.Null t h k = absurd k
-  nulls s t h k = absurd h
+  lines_agree : (us vs : List ArcRef) → HasLine us → HasLine vs → list_cmp (walked arcs us) (walked arcs vs) ≡ line_refs_cmp arcs (least_of arcs) us vs
+  lines_agree us vs (k, h) (l, m) = (λ i. list_cmp (sym (line_form arcs k us h) i) (sym (line_form arcs l vs m) i)) ∙ lines_stand arcs noded k l us vs h m
 
-  points : (p q : Pos) (s t : shapes.Shape) → IsShapeOf arcs s (of.Point p) → IsShapeOf arcs t (of.Point q) → shape_cmp s t ≡ position_cmp p q
-  points p q (of.Point a) (of.Point b) h k = (λ i. position_cmp (h i) (k i))
-  points p q (of.Point a) t h k = absurd k
-  points p q s t h k = absurd h
+  rings_agree : (us vs : List ArcRef) → HasRing us → HasRing vs → list_cmp (vertices_used arcs us) (vertices_used arcs vs) ≡ ring_refs_cmp arcs (least_of arcs) us vs
+  rings_agree us vs (q, h) (r, m) = (λ i. list_cmp (sym (ring_form arcs q us h) i) (sym (ring_form arcs r vs m) i)) ∙ rings_stand arcs noded q r us vs h m
 
-  point_lists : (p q : List Pos) (s t : shapes.Shape) → IsShapeOf arcs s (of.MultiPoint p) → IsShapeOf arcs t (of.MultiPoint q) → shape_cmp s t ≡ list_cmp p q
-  point_lists p q (of.MultiPoint a) (of.MultiPoint b) h k = (λ i. list_cmp (h i) (k i))
-  point_lists p q (of.MultiPoint a) t h k = absurd k
-  point_lists p q s t h k = absurd h
+  -- lists of rings by their vertices as by their used arcs
+  polygons_agree : (ls ks : List (List ArcRef)) → AllByRecursion HasRing ls → AllByRecursion HasRing ks →
+      slice_cmp list_cmp (map_list (vertices_used arcs) ls) (map_list (vertices_used arcs) ks) ≡ slice_cmp (ring_refs_cmp arcs (least_of arcs)) ls ks
+  polygons_agree ls ks h k =
+      lex_map (vertices_used arcs) list_cmp ls ks
+      ∙ slices_agree HasRing (λ us vs. list_cmp (vertices_used arcs us) (vertices_used arcs vs)) (ring_refs_cmp arcs (least_of arcs)) rings_agree ls ks h k
 
-  one_line : (us vs : List ArcRef) (s t : shapes.Shape) → IsShapeOf arcs s (of.Line us) → IsShapeOf arcs t (of.Line vs) → shape_cmp s t ≡ line_refs_cmp arcs (least_of arcs) us vs
-  one_line us vs (of.Line k) (of.Line l) h m = of_lines k l us vs h m
-  one_line us vs (of.Line k) t h m = absurd m
-  one_line us vs s t h m = absurd h
+  pub bodies_stand : (b c : bodies.Body) (s t : shapes.Shape) → IsShapeOf arcs s b → IsShapeOf arcs t c →
+      form_cmp (body_form arcs b) (body_form arcs c) ≡ bodies_cmp arcs (least_of arcs) b c
+  bodies_stand (of.Line us) (of.Line vs) s t h k =
+      let (l, _, m) = is_line arcs s us h in
+      let (o, _, n) = is_line arcs t vs k in
+      lines_agree us vs (l, m) (o, n)
+  bodies_stand (of.MultiLine ls) (of.MultiLine ks) s t h k =
+      let (xs, _, m) = is_lines arcs s ls h in
+      let (ys, _, n) = is_lines arcs t ks k in
+      lex_map (walked arcs) list_cmp ls ks
+      ∙ slices_agree HasLine (λ us vs. list_cmp (walked arcs us) (walked arcs vs)) (line_refs_cmp arcs (least_of arcs)) lines_agree ls ks
+      (each_has (IsLineOf arcs) xs ls m) (each_has (IsLineOf arcs) ys ks n)
+  bodies_stand (of.Polygon ls) (of.Polygon ks) s t h k =
+      let (xs, _, m) = is_polygon arcs s ls h in
+      let (ys, _, n) = is_polygon arcs t ks k in
+      polygons_agree ls ks (each_has (IsRingOf arcs) xs ls m) (each_has (IsRingOf arcs) ys ks n)
+  bodies_stand (of.MultiPolygon ps) (of.MultiPolygon qs) s t h k =
+      let (xs, _, m) = is_polygons arcs s ps h in
+      let (ys, _, n) = is_polygons arcs t qs k in
+      let IsPolygon = λ (u : List (List ArcRef)). (rs : List the_ring.Ring) × Pairwise (IsRingOf arcs) rs u in
+      lex_map (map_list (vertices_used arcs)) (slice_cmp list_cmp) ps qs
+      ∙ slices_agree IsPolygon (λ ls ks. slice_cmp list_cmp (map_list (vertices_used arcs) ls) (map_list (vertices_used arcs) ks))
+      (slice_cmp (ring_refs_cmp arcs (least_of arcs)))
+      (λ ls ks p q. polygons_agree ls ks (each_has (IsRingOf arcs) p.0 ls p.1) (each_has (IsRingOf arcs) q.0 ks q.1)) ps qs
+      (each_has (Pairwise (IsRingOf arcs)) xs ps m) (each_has (Pairwise (IsRingOf arcs)) ys qs n)
+  bodies_stand b c s t h k = refl
 
-  many_lines : (ls ks : List (List ArcRef)) (s t : shapes.Shape) → IsShapeOf arcs s (of.MultiLine ls) → IsShapeOf arcs t (of.MultiLine ks) →
-      shape_cmp s t ≡ slice_cmp (line_refs_cmp arcs (least_of arcs)) ls ks
-  many_lines ls ks (of.MultiLine xs) (of.MultiLine ys) h m = slices_stand (IsLineOf arcs) line_cmp (line_refs_cmp arcs (least_of arcs)) of_lines xs ys ls ks h m
-  many_lines ls ks (of.MultiLine xs) t h m = absurd m
-  many_lines ls ks s t h m = absurd h
-
-  one_polygon : (ls ks : List (List ArcRef)) (s t : shapes.Shape) → IsShapeOf arcs s (of.Polygon ls) → IsShapeOf arcs t (of.Polygon ks) →
-      shape_cmp s t ≡ slice_cmp (ring_refs_cmp arcs (least_of arcs)) ls ks
-  one_polygon ls ks (of.Polygon xs) (of.Polygon ys) h m = slices_stand (IsRingOf arcs) ring_cmp (ring_refs_cmp arcs (least_of arcs)) of_rings xs ys ls ks h m
-  one_polygon ls ks (of.Polygon xs) t h m = absurd m
-  one_polygon ls ks s t h m = absurd h
-
-  many_polygons : (ps qs : List (List (List ArcRef))) (s t : shapes.Shape) → IsShapeOf arcs s (of.MultiPolygon ps) → IsShapeOf arcs t (of.MultiPolygon qs) →
-      shape_cmp s t ≡ slice_cmp (slice_cmp (ring_refs_cmp arcs (least_of arcs))) ps qs
-  many_polygons ps qs (of.MultiPolygon xs) (of.MultiPolygon ys) h m =
-      slices_stand (Pairwise (IsRingOf arcs)) (slice_cmp ring_cmp) (slice_cmp (ring_refs_cmp arcs (least_of arcs)))
-      (slices_stand (IsRingOf arcs) ring_cmp (ring_refs_cmp arcs (least_of arcs)) of_rings) xs ys ps qs h m
-  many_polygons ps qs (of.MultiPolygon xs) t h m = absurd m
-  many_polygons ps qs s t h m = absurd h
-
-  bodies_stand : (b c : bodies.Body) → body_rank b ≡ body_rank c → (s t : shapes.Shape) → IsShapeOf arcs s b → IsShapeOf arcs t c →
-      shape_cmp s t ≡ bodies_cmp arcs (least_of arcs) b c
-  bodies_stand of.Null of.Null e s t h k = nulls s t h k
-  bodies_stand (of.Point p) (of.Point q) e s t h k = points p q s t h k
-  bodies_stand (of.MultiPoint p) (of.MultiPoint q) e s t h k = point_lists p q s t h k
-  bodies_stand (of.Line us) (of.Line vs) e s t h k = one_line us vs s t h k
-  bodies_stand (of.MultiLine ls) (of.MultiLine ks) e s t h k = many_lines ls ks s t h k
-  bodies_stand (of.Polygon ls) (of.Polygon ks) e s t h k = one_polygon ls ks s t h k
-  bodies_stand (of.MultiPolygon ps) (of.MultiPolygon qs) e s t h k = many_polygons ps qs s t h k
-  bodies_stand b c e s t h k = absurd (omega arith)
-
-  tied : (x y : Ordering) → is_ne (ordering_then x y) ≡ false → (x ≡ Equal) × (y ≡ Equal)
+  tied : (x y : Ordering) → is_ne (ordering_then x y) ≡ false → x ≡ Equal
   tied Less y e = absurd cc
-  tied Equal Less e = absurd cc
-  tied Equal Equal e = (refl, refl)
-  tied Equal Greater e = absurd cc
+  tied Equal y e = refl
   tied Greater y e = absurd cc
 
   -- geometries that tie by id, properties and kind stand as their bodies
@@ -108,8 +98,6 @@ module _ (arcs : List (List Pos)) (noded : AreNoded arcs) where
       bodies_cmp arcs (least_of arcs) a.body b.body ≡ geometry_cmp arcs a b
   unfolding geometry_cmp
   bodies_decide a b o (f, h) (g, k) e n =
-      let (info, rank) = tied (info_cmp a b) (nat_cmp (body_rank a.body) (body_rank b.body)) (sym (ap is_ne e) ∙ n) in
-      sym (bodies_stand a.body b.body (nat_cmp-IsAntisymmetric (body_rank a.body) (body_rank b.body) rank) f.shape g.shape h.shape k.shape)
-      ∙ shapes_by_form f.shape g.shape
-      ∙ (λ i. form_cmp (shape_form arcs f.shape a.body h.shape i) (shape_form arcs g.shape b.body k.shape i))
-      ∙ ap (λ x. ordering_then x (form_cmp (body_form arcs a.body) (body_form arcs b.body))) (sym info)
+      sym (bodies_stand a.body b.body f.shape g.shape h.shape k.shape)
+      ∙ ap (λ x. ordering_then x (form_cmp (body_form arcs a.body) (body_form arcs b.body)))
+      (sym (tied (info_cmp a b) (nat_cmp (body_rank a.body) (body_rank b.body)) (sym (ap is_ne e) ∙ n)))

@@ -1,12 +1,16 @@
--- Lists of used arcs by what they stitch to.
-use Rattle.std.specs.Prelude.{ℕ, ◌+◌, cond, List, [], ◌∷◌, ◌++◌, Option, None, drop, take}
+-- Lists of used arcs by what they stitch to: by the first steps along the arcs, those of a ring from its least step on.
+use Rattle.std.specs.Prelude.{ℕ, ◌+◌, cond, List, [], ◌∷◌, ◌++◌, Option, None, drop, map, take}
+use Rattle.std.specs.Cmp.Lexicographic.{slice_cmp}
 use Rattle.std.specs.Option.{option_cmp}
-use Rattle.std.specs.Ordering.{is_lt, ordering_then}
+use Rattle.std.specs.Ordering.{is_lt}
 use Rattle.std.specs.declared.cmp.Ordering.{Ordering}
 use Rattle.grid.specs.declared.pos.Pos.{Pos}
+use Rattle.shapes.specs.Order.{form_cmp}
 use Rattle.theory.specs.ArcNumbers.{ArcRef}
+use Rattle.topo.specs.Bodies.{Body}
+use Rattle.arcs.specs.Steps.{step_along, step_cmp}
+use Rattle.arcs.specs.declared.step.Step.{Step}
 use Rattle.topo.specs.GeometryOrder.Least.{least_at}
-use Rattle.topo.specs.GeometryOrder.Steps.{starts_cmp, step_cmp}
 use Rattle.topo.specs.declared.geometry_order.least.LeastSteps.{LeastSteps}
 use Rattle.topo.specs.declared.geometry_order.lists.Lead.{Lead}
 
@@ -25,16 +29,28 @@ lead_of least (a ∷ used) = lead_from least (record { step = least_at least a; 
 abbrev pub turned : List ArcRef → ℕ → List ArcRef
 turned used n = drop n used ++ take n used
 
--- lists of used arcs, each begun at its place, by the first steps along the arcs
-abbrev pub turned_cmp : List (List Pos) → List ArcRef → ℕ → List ArcRef → ℕ → Ordering
-turned_cmp arcs us m vs n = starts_cmp arcs (turned us m) (turned vs n)
+-- the first steps along the arcs of a line
+abbrev pub line_key : List (List Pos) → List ArcRef → List (Option Step)
+line_key arcs us = map (step_along arcs) us
 
--- lists of lines, by the first steps along the arcs
+-- the least step of a ring, and the first steps along its arcs from there
+abbrev pub ring_key : List (List Pos) → List (Option LeastSteps) → List ArcRef → List (Option Step)
+ring_key arcs least us = (lead_of least us).step ∷ line_key arcs (turned us (lead_of least us).behind)
+
+-- steps, one after the other
+abbrev pub steps_cmp : List (Option Step) → List (Option Step) → Ordering
+steps_cmp = slice_cmp (option_cmp step_cmp)
+
+-- lists of used arcs by the first steps along them
+abbrev pub starts_cmp : List (List Pos) → List ArcRef → List ArcRef → Ordering
+starts_cmp arcs us vs = steps_cmp (line_key arcs us) (line_key arcs vs)
+
 abbrev pub line_refs_cmp : List (List Pos) → List (Option LeastSteps) → List ArcRef → List ArcRef → Ordering
 line_refs_cmp arcs least us vs = starts_cmp arcs us vs
 
--- by the least steps, and then along the arcs from there
 abbrev pub ring_refs_cmp : List (List Pos) → List (Option LeastSteps) → List ArcRef → List ArcRef → Ordering
-ring_refs_cmp arcs least us vs =
-    ordering_then (option_cmp step_cmp (lead_of least us).step (lead_of least vs).step)
-    (turned_cmp arcs us (lead_of least us).behind vs (lead_of least vs).behind)
+ring_refs_cmp arcs least us vs = steps_cmp (ring_key arcs least us) (ring_key arcs least vs)
+
+-- bodies by their kinds, then by their lists
+abbrev pub bodies_cmp : List (List Pos) → List (Option LeastSteps) → Body → Body → Ordering
+bodies_cmp arcs least = form_cmp (line_refs_cmp arcs least) (ring_refs_cmp arcs least)

@@ -63,19 +63,19 @@ module _ (arcs : List (List Pos)) where
   is_points (of.MultiPoint qs) ps h = ap of.MultiPoint h
   is_points s ps h = absurd h
 
-  is_line : (s : shapes.Shape) (used : List ArcRef) → IsShapeOf arcs s (of.Line used) → (l : the_line.Line) × (s ≡ of.Line l) × IsLineOf arcs l used
+  pub is_line : (s : shapes.Shape) (used : List ArcRef) → IsShapeOf arcs s (of.Line used) → (l : the_line.Line) × (s ≡ of.Line l) × IsLineOf arcs l used
   is_line (of.Line l) used h = (l, refl, h)
   is_line s used h = absurd h
 
-  is_lines : (s : shapes.Shape) (lists : List (List ArcRef)) → IsShapeOf arcs s (of.MultiLine lists) → (ls : List the_line.Line) × (s ≡ of.MultiLine ls) × Pairwise (IsLineOf arcs) ls lists
+  pub is_lines : (s : shapes.Shape) (lists : List (List ArcRef)) → IsShapeOf arcs s (of.MultiLine lists) → (ls : List the_line.Line) × (s ≡ of.MultiLine ls) × Pairwise (IsLineOf arcs) ls lists
   is_lines (of.MultiLine ls) lists h = (ls, refl, h)
   is_lines s lists h = absurd h
 
-  is_polygon : (s : shapes.Shape) (lists : List (List ArcRef)) → IsShapeOf arcs s (of.Polygon lists) → (rs : List the_ring.Ring) × (s ≡ of.Polygon rs) × Pairwise (IsRingOf arcs) rs lists
+  pub is_polygon : (s : shapes.Shape) (lists : List (List ArcRef)) → IsShapeOf arcs s (of.Polygon lists) → (rs : List the_ring.Ring) × (s ≡ of.Polygon rs) × Pairwise (IsRingOf arcs) rs lists
   is_polygon (of.Polygon rs) lists h = (rs, refl, h)
   is_polygon s lists h = absurd h
 
-  is_polygons : (s : shapes.Shape) (lists : List (List (List ArcRef))) → IsShapeOf arcs s (of.MultiPolygon lists) →
+  pub is_polygons : (s : shapes.Shape) (lists : List (List (List ArcRef))) → IsShapeOf arcs s (of.MultiPolygon lists) →
       (ps : List (List the_ring.Ring)) × (s ≡ of.MultiPolygon ps) × Pairwise (Pairwise (IsRingOf arcs)) ps lists
   is_polygons (of.MultiPolygon ps) lists h = (ps, refl, h)
   is_polygons s lists h = absurd h

@@ -1,15 +1,16 @@
-//! Bodies of one kind, by what they stitch to.
+//! Bodies, by what they stitch to.
+ghost use Rattle.topo.specs.GeometryOrder.Lists.{bodies_cmp};
 ghost use Rattle.std.specs.Prelude.{◌≡◌};
-ghost use Rattle.topo.specs.GeometryOrder.Bodies.{bodies_cmp};
 
 use crate::Body;
 use crate::geometry_order::lists::{ByArcs, Ordered};
+use crate::order::rank;
 use lines::items::Items;
 use lines::line::Line;
 use lines::ring::Ring;
 use std::cmp::Ordering;
 
-/// The order of two bodies of one kind. Bodies of two kinds tie.
+/// The order of two bodies: by their kinds, then by what they stitch to.
 pub(crate) fn body_order(view: &Ordered, body: &Body, other: &Body) -> Ordering
     ensures { result ≡ bodies_cmp view.now.arcs.now.arcs view.now.least.now body.now other.now }
 {
@@ -24,6 +25,6 @@ pub(crate) fn body_order(view: &Ordered, body: &Body, other: &Body) -> Ordering
         (Body::MultiPolygon(lists), Body::MultiPolygon(others)) => {
             Items::<Items<Ring>>::order(view, lists, others)
         }
-        _ => Ordering::Equal,
+        _ => rank(body).cmp(&rank(other)),
     }
 }

@@ -1,12 +1,9 @@
 //! The least step along each arc, in both directions.
-ghost use Rattle.topo.specs.GeometryOrder.Least.{least_at, least_of, least_both};
-ghost use Rattle.topo.specs.GeometryOrder.Least as spec;
-ghost use Rattle.topo.specs.GeometryOrder.Steps.{step_cmp};
-ghost use Rattle.std.specs.Ordering.{is_lt};
-ghost use Rattle.std.specs.Prelude.{◌≡◌, IfOk, cond, map};
+ghost use Rattle.topo.specs.GeometryOrder.Least.{least_at, least_both, least_of};
+ghost use Rattle.std.specs.Prelude.{◌≡◌, IfOk};
 
-use crate::geometry_order::step::FirstStep;
-use chains::table::{ArcRef, ArcTable};
+use arcs::step::Step;
+use arcs::table::{ArcRef, ArcTable};
 use faults::OutOfMemory;
 use grid::Pos;
 use std::alloc::Global;
@@ -14,34 +11,8 @@ use std::alloc::Global;
 /// The least steps along an arc and against it.
 #[derive(Clone, Copy)]
 pub(crate) struct LeastSteps {
-    forward: FirstStep,
-    backward: FirstStep,
-}
-
-fn comes_before(step: &FirstStep, other: &FirstStep) -> bool
-    ensures { result ≡ is_lt (step_cmp step.now other.now) }
-{
-    step < other
-}
-
-fn lesser(best: FirstStep, step: FirstStep) -> FirstStep
-    ensures { result ≡ spec.lesser best step }
-{
-    if comes_before(&step, &best) {
-        step
-    } else {
-        best
-    }
-}
-
-/// The least steps where one more step is known, from a position to the next one along the arc.
-fn with_step(best: LeastSteps, from: Pos, to: Pos) -> LeastSteps
-    ensures { result ≡ spec.with_step best from to }
-{
-    LeastSteps {
-        forward: lesser(best.forward, FirstStep { from, to }),
-        backward: lesser(best.backward, FirstStep { from: to, to: from }),
-    }
+    forward: Step,
+    backward: Step,
 }
 
 /// The least steps of an arc; `None` where it has no two positions.
@@ -50,22 +21,19 @@ fn least_steps(arc: &[Pos]) -> Option<LeastSteps>
 {
     let (first, others) = arc.split_first()?;
     let (second, rest) = others.split_first()?;
-    let mut best = LeastSteps {
-        forward: FirstStep {
-            from: *first,
-            to: *second,
-        },
-        backward: FirstStep {
-            from: *second,
-            to: *first,
-        },
+    let (from, mut here) = (*first, *second);
+    let mut forward = Step { from, to: here };
+    let mut backward = Step {
+        from: here,
+        to: from,
     };
-    let mut here = *second;
     for next in rest {
-        best = with_step(best, here, *next);
-        here = *next;
+        let (from, to) = (here, *next);
+        forward = forward.min(Step { from, to });
+        backward = backward.min(Step { from: to, to: from });
+        here = to;
     }
-    Some(best)
+    Some(LeastSteps { forward, backward })
 }
 
 /// The least steps of each arc of a table.
@@ -83,7 +51,7 @@ pub(crate) fn least_of_arcs(
 }
 
 /// The least step along a used arc; `None` where no arc has its number.
-pub(crate) fn least_step(least: &[Option<LeastSteps>], used: &ArcRef) -> Option<FirstStep>
+pub(crate) fn least_step(least: &[Option<LeastSteps>], used: &ArcRef) -> Option<Step>
     ensures { result ≡ least_at least.now used.now }
 {
     let of_arc = (*least.get(used.arc)?)?;

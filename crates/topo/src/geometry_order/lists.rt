@@ -1,17 +1,17 @@
 //! Lists of used arcs, by what they stitch to.
-ghost use Rattle.topo.specs.GeometryOrder.Lists.{lead_of, line_refs_cmp, ring_refs_cmp, turned_cmp};
-ghost use Rattle.topo.specs.GeometryOrder.Steps.{starts_cmp, step_cmp};
+ghost use Rattle.arcs.specs.Steps.{step_cmp};
+ghost use Rattle.topo.specs.GeometryOrder.Lists.{lead_of, line_refs_cmp, ring_refs_cmp, starts_cmp, turned};
 ghost use Rattle.topo.specs.declared.geometry_order.least.LeastSteps as steps;
 ghost use Rattle.grid.specs.declared.pos.Pos.{Pos as place};
 ghost use Rattle.std.specs.Cmp.Lexicographic.{slice_cmp};
 ghost use Rattle.std.specs.Option.{option_cmp};
 ghost use Rattle.std.specs.Ordering.{is_lt};
-ghost use Rattle.std.specs.Prelude.{◌≡◌, ◌≤◌, ◌++◌, List, Option, drop, length, take};
+ghost use Rattle.std.specs.Prelude.{◌≡◌, ◌≤◌, List, Option, length};
 ghost use Rattle.std.specs.declared.cmp.Ordering.{Ordering as order_of};
 
 use crate::geometry_order::least::{LeastSteps, least_step};
-use crate::geometry_order::step::{FirstStep, start};
-use chains::table::{ArcRef, ArcTable};
+use arcs::step::Step;
+use arcs::table::{ArcRef, ArcTable};
 use lines::items::Items;
 use lines::line::Line;
 use lines::ring::Ring;
@@ -27,11 +27,11 @@ pub(crate) struct Ordered<'a> {
 /// The least step of a list of used arcs, and how many arcs there are up to the one that has it.
 #[derive(Clone, Copy)]
 pub(crate) struct Lead {
-    pub(crate) step: Option<FirstStep>,
+    pub(crate) step: Option<Step>,
     pub(crate) behind: usize,
 }
 
-fn comes_before(step: &Option<FirstStep>, other: &Option<FirstStep>) -> bool
+fn comes_before(step: &Option<Step>, other: &Option<Step>) -> bool
     ensures { result ≡ is_lt (option_cmp step_cmp step.now other.now) }
 {
     step < other
@@ -67,8 +67,8 @@ fn line_order(arcs: &ArcTable, used: &[ArcRef], other: &[ArcRef]) -> Ordering
     ensures { result ≡ starts_cmp arcs.now.arcs used.now other.now }
 {
     used.iter()
-        .map(|arc| start(arcs, arc))
-        .cmp(other.iter().map(|arc| start(arcs, arc)))
+        .map(|arc| arcs.first_step(*arc))
+        .cmp(other.iter().map(|arc| arcs.first_step(*arc)))
 }
 
 /// The order of two lists that are read from a place on, and then from their first arc up to it.
@@ -81,16 +81,19 @@ fn turned_order(
 ) -> Ordering
     requires place { place ≤ length used.now }
     requires other_place { other_place ≤ length other.now }
-    ensures { result ≡ turned_cmp arcs.now.arcs used.now place other.now other_place }
+    ensures { result ≡ starts_cmp arcs.now.arcs (turned used.now place) (turned other.now other_place) }
 {
     let (front, back) = used.split_at(place);
     let (other_front, other_back) = other.split_at(other_place);
-    back.iter().chain(front).map(|arc| start(arcs, arc)).cmp(
-        other_back
-            .iter()
-            .chain(other_front)
-            .map(|arc| start(arcs, arc)),
-    )
+    back.iter()
+        .chain(front)
+        .map(|arc| arcs.first_step(*arc))
+        .cmp(
+            other_back
+                .iter()
+                .chain(other_front)
+                .map(|arc| arcs.first_step(*arc)),
+        )
 }
 
 /// The order of two rings: by their least steps, and where these are one step, along the arcs from there.

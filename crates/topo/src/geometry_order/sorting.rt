@@ -1,16 +1,17 @@
 //! Geometries sorted.
-ghost use Rattle.std.specs.Prelude.{◌≡◌, IfOk, map};
 ghost use Rattle.topo.specs.GeometryOrder.Keys.{keyed, keyed_cmp};
 ghost use Rattle.topo.specs.GeometryOrder.Sorting.{IsSortedByKey};
+ghost use Rattle.std.specs.Prelude.{◌≡◌, IfOk, map};
 
-use crate::geometry_order::keys::{BodyKey, key_of};
+use crate::Geom;
+use crate::geometry_order::keys::{BodyKey, LineSteps, RingSteps};
 use crate::geometry_order::lists::Ordered;
-use crate::{Geom, kind_order};
+use crate::order::info_order;
 use faults::OutOfMemory;
 use std::alloc::Global;
 use std::cmp::Ordering;
 
-/// A geometry, and what it is sorted by among those of its id, properties and kind.
+/// A geometry, and what it is sorted by among those of its id and properties.
 #[derive(Drop)]
 struct Keyed {
     geometry: Geom,
@@ -20,7 +21,7 @@ struct Keyed {
 fn keyed_order(keyed: &Keyed, other: &Keyed) -> Ordering
     ensures { result ≡ keyed_cmp keyed.now other.now }
 {
-    let order = kind_order(&keyed.geometry, &other.geometry);
+    let order = info_order(&keyed.geometry, &other.geometry);
     if order.is_ne() {
         return order;
     }
@@ -36,7 +37,8 @@ fn with_keys(
 {
     let mut made = Vec::with_capacity(alloc, geometries.len())?;
     for geometry in geometries {
-        let key = key_of(alloc, view, &geometry.body)?;
+        let (line, ring) = (LineSteps(view.arcs), RingSteps(view));
+        let key = geometry.body.try_map(alloc, &line, &ring)?;
         made.push(Keyed { geometry, key })?;
     }
     Ok(made)
@@ -52,7 +54,7 @@ fn without_keys(alloc: Global, sorted: Vec<Keyed>) -> Result<Vec<Geom>, OutOfMem
     Ok(geometries)
 }
 
-/// The geometries in the order of ids, properties, kinds and keys.
+/// The geometries in the order of ids, properties and keys.
 pub(crate) fn sorted_by_keys(
     alloc: Global,
     view: &Ordered,

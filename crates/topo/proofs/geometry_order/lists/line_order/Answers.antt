@@ -1,17 +1,15 @@
 use Rattle.std.proofs.Common.{rules, ◌≡◌, ap, ◌∙◌}
 use Rattle.std.proofs.lemmas.Iterator.{YieldsList-from_map, YieldsList-from_slice}
 use Rattle.std.proofs.lemmas.Iterator.Search.{cmp_from_yields_List}
-use Rattle.std.specs.Cmp.Derive.Mapped.{lex_map}
 use Rattle.std.specs.Iterator.Adapters.{map_callee}
 use Rattle.std.specs.Option.{option_cmp}
-use Rattle.topo.specs.GeometryOrder.Steps.{start_along, step_cmp}
+use Rattle.arcs.specs.Steps.{step_along, step_cmp}
 use Rattle.topo.proofs.geometry_order.lists.line_order.Goals as goal
 
 pub returns : goal.returns
 returns c =
     let arcs = c.args.arcs.now.arcs in
     cmp_from_yields_List (λ x y. y ≡ x) _ (option_cmp step_cmp) _ c.cmp.ensures.ran
-    (YieldsList-from_map _ (start_along arcs) (YieldsList-from_slice c.args.used.now cc) c.map.ensures.closure (λ x r q k. search rules))
-    (λ it e. YieldsList-from_map _ (start_along arcs) (YieldsList-from_slice c.args.other.now cc) (ap map_callee e ∙ c.map-2.ensures.closure) (λ x r q k. search rules))
+    (YieldsList-from_map _ (step_along arcs) (YieldsList-from_slice c.args.used.now cc) c.map.ensures.closure (λ x r q k. search rules))
+    (λ it e. YieldsList-from_map _ (step_along arcs) (YieldsList-from_slice c.args.other.now cc) (ap map_callee e ∙ c.map-2.ensures.closure) (λ x r q k. search rules))
     (λ x y. search rules)
-    ∙ lex_map (start_along arcs) (option_cmp step_cmp) c.args.used.now c.args.other.now
