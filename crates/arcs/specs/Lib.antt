@@ -7,4 +7,7 @@ pub mod Table
 pub mod Stored
 pub mod Placing
 pub mod Turning
+pub mod ArcMarks
+pub mod Ends
+pub mod Steps
 pub mod Pieces

@@ -2,7 +2,9 @@
 //! numbers.
 #![tactic(auto)]
 
+pub mod arc_marks;
 mod arcs_box;
+pub mod ends;
 mod key;
 pub mod marking;
 mod merging;
@@ -10,13 +12,16 @@ mod numbering;
 pub mod ordered;
 pub mod piece;
 mod shared_positions;
+pub mod step;
 mod stored;
 pub mod table;
 pub mod table_arcs;
 pub mod turning;
 pub mod used_arcs;
 
+pub use arc_marks::ArcMarks;
 pub use arcs_box::Extent;
 pub use piece::Piece;
+pub use step::Step;
 pub use table::{ArcRef, ArcTable};
 pub use turning::turn_ring;

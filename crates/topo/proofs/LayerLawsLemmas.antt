@@ -11,6 +11,5 @@ pub mod LessEntries
 pub mod LeftGeometries
 pub mod RejoinedLayers
 pub mod JoinUndone
-pub mod LeftMarks
 pub mod Passing
 pub mod LeftEnds

@@ -1,0 +1,26 @@
+-- Steps along lists of positions, each from a position to the next one.
+use Rattle.std.specs.Prelude.{List, [], ◌∷◌, Option, Some, None, unwrap_or}
+use Rattle.std.specs.Ordering.{ordering_then}
+use Rattle.std.specs.declared.cmp.Ordering.{Ordering}
+use Rattle.theory.specs.ArcNumbers.{ArcRef, along}
+use Rattle.grid.specs.declared.pos.Pos.{Pos}
+use Rattle.lines.specs.Turned.{position_cmp}
+use Rattle.arcs.specs.declared.step.Step.{Step}
+
+-- the step from p to q
+abbrev pub step : Pos → Pos → Step
+step p q = record { from = p; to = q }
+
+-- by where steps begin, then by where they end
+abbrev pub step_cmp : Step → Step → Ordering
+step_cmp s t = ordering_then (position_cmp s.from t.from) (position_cmp s.to t.to)
+
+-- the first step along a list
+abbrev pub first_of : List Pos → Option Step
+first_of [] = None
+first_of (p ∷ []) = None
+first_of (p ∷ (q ∷ l)) = Some (step p q)
+
+-- the first step along a used arc [TopoJSON, 2.1.4]
+abbrev pub step_along : List (List Pos) → ArcRef → Option Step
+step_along arcs a = first_of (unwrap_or (along arcs a) [])
