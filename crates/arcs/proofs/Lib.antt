@@ -14,5 +14,5 @@ pub mod TurnedLists
 pub mod LeastUsed
 pub mod Backwards
 pub mod SetMarks
-pub mod Ends
+pub mod EndsAlong
 pub mod Steps

@@ -16,7 +16,7 @@ use Rattle.lines.specs.Turned.{position_cmp}
 use Rattle.lines.proofs.Positions.{both_intro, both_true, true_false}
 use Rattle.lines.proofs.SortedLists.{Rises, Up, rises_from_sorted, up_from_rises}
 use Rattle.arcs.specs.Ends.{ends_along, first_end}
-use Rattle.arcs.proofs.Ends.{ends_run, run_ends}
+use Rattle.arcs.proofs.EndsAlong.{ends_run, run_ends}
 use Rattle.arcs.proofs.Merged.{then_less}
 use Rattle.split_heal.specs.ArcUseMap.{same_way}
 use Rattle.split_heal.specs.declared.pseudo_nodes.ArcEnd.{ArcEnd}

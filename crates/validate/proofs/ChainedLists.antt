@@ -7,7 +7,7 @@ use Rattle.theory.specs.ArcNumbers.{ArcRef, along}
 use Rattle.theory.specs.Lists.{front_of, last_of}
 use Rattle.theory.specs.Validity.{Runs}
 use Rattle.arcs.specs.Ends.{ends_along, first_end}
-use Rattle.arcs.proofs.Ends.{ends_run, run_ends}
+use Rattle.arcs.proofs.EndsAlong.{ends_run, run_ends}
 use Rattle.validate.specs.Chaining.{gone_on, next_from, run_from, start_of}
 
 next_is : (here : Pos) (o : Option (Pos × Pos)) (w : Pos) → next_from here o ≡ Some w → o ≡ Some (here, w)

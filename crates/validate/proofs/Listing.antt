@@ -22,7 +22,7 @@ use Rattle.arcs.specs.Ends.{ends_along}
 use Rattle.validate.specs.Chaining.{run_from}
 use Rattle.validate.specs.RingStarts.{starts_least}
 use Rattle.arcs.proofs.SetMarks.{once_told, told_once}
-use Rattle.arcs.proofs.Ends.{run_ends}
+use Rattle.arcs.proofs.EndsAlong.{run_ends}
 use Rattle.validate.proofs.ChainedLists.{runs_from, starts_there}
 use Rattle.validate.proofs.Starting.{least_told, told_least}
 

@@ -7,7 +7,7 @@ use Rattle.theory.specs.Refinement.{unclosed}
 use Rattle.theory.specs.Validity.{inner_of}
 use Rattle.theory.proofs.Lists.{front-snoc}
 use Rattle.arcs.specs.Among.{among}
-use Rattle.arcs.proofs.Ends.{last_get}
+use Rattle.arcs.proofs.EndsAlong.{last_get}
 use Rattle.arcs.specs.Table.{is_loop}
 use Rattle.lines.proofs.Dropping.{drop_next}
 use Rattle.chains.proofs.TablesAsMap.{answered, given, unclosed_rest}

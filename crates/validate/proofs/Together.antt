@@ -33,7 +33,7 @@ use Rattle.arcs.specs.Ends.{ends_along}
 use Rattle.validate.specs.Validity as law
 use Rattle.validate.specs.Validity.{AreListsOf, AreTurnedListsOf, ListsStand, StitchAround}
 use Rattle.validate.proofs.NodedArcs.{is_table}
-use Rattle.arcs.proofs.Ends.{ends_run}
+use Rattle.arcs.proofs.EndsAlong.{ends_run}
 
 order : IsOrder position_cmp
 order = record { total = position_total; same = position_same }

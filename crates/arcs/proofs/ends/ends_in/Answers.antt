@@ -1,4 +1,4 @@
-use Rattle.arcs.proofs.Ends.{ends_backward, ends_forward}
+use Rattle.arcs.proofs.EndsAlong.{ends_backward, ends_forward}
 use Rattle.arcs.proofs.ends.ends_in.Goals as goal
 
 pub returns-then-reversed : goal.returns-then-reversed

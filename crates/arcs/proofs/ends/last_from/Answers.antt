@@ -1,4 +1,4 @@
-use Rattle.arcs.proofs.Ends.{last_told}
+use Rattle.arcs.proofs.EndsAlong.{last_told}
 use Rattle.arcs.proofs.ends.last_from.Goals as goal
 
 pub returns-in-Some : goal.returns-in-Some

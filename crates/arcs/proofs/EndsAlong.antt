@@ -1,5 +1,5 @@
 -- Where used arcs begin and end, and what they run along.
-use Rattle.std.proofs.Common.{◌≡◌, ◌-◌, Bool, true, false, cond, List, [], ◌∷◌, length, reverse, sym, ap, ◌∙◌, subst, arith, Option, Some, None, slice_get, option_map}
+use Rattle.std.proofs.Common.{◌≡◌, ◌-◌, Bool, true, false, cond, List, [], ◌∷◌, length, reverse, refl, sym, ap, ◌∙◌, subst, arith, Option, Some, None, slice_get, option_map}
 use Rattle.grid.specs.declared.pos.Pos.{Pos}
 use Rattle.theory.specs.ArcNumbers.{ArcRef, along}
 use Rattle.theory.specs.Lists.{front_of, last_of}
