@@ -2,7 +2,7 @@ pub mod ArcsOfPieces
 pub mod ArcsHeld
 pub mod Places
 pub mod Rising
-pub mod AsTheyStand
+pub mod ArcsInOrder
 pub mod Merged
 pub mod Marks
 pub mod Looking

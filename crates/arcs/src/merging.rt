@@ -45,7 +45,7 @@ fn next_arc(
     Ok(next)
 }
 
-/// The same, where there may be no first.
+/// Of the last arc, where there is one, and the next one: see `next_arc`.
 pub(crate) fn arc_behind(
     arcs: &mut ArcList,
     last: Option<StoredArc>,

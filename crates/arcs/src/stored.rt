@@ -122,7 +122,7 @@ impl ArcList {
         Ok(made)
     }
 
-    /// The same arcs, whose positions are shared.
+    /// An equal list, which shares the arcs' positions.
     pub(crate) fn share(&self, alloc: Global) -> Result<ArcList, AllocError>
         ensures { IfOk result (λ l. l ≡ self.now) }
     {

@@ -61,7 +61,7 @@ impl ArcRef {
         if self.reversed { -1 - number } else { number }
     }
 
-    /// The same, as texts have it.
+    /// The index as texts have it, of 64 bits.
     pub fn index(self) -> i64
         requires { self.arc < 2 ^ 63 }
         ensures { result ≡ index_of self }
@@ -165,7 +165,7 @@ impl ArcTable {
         Ok(Some(ArcTable { arcs, extent: None }))
     }
 
-    /// The same table, of which it is known in which box all positions lie.
+    /// This table, of which it is known in which box all positions lie.
     pub fn with_extent(self, extent: Extent) -> ArcTable
         requires { HoldAll (within extent) self.arcs }
         ensures { result ≡ self }

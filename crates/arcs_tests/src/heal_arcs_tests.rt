@@ -115,7 +115,7 @@ const ROWS: &[Row] = &[
 ];
 
 /// Joins what is left of a row's map.
-fn rejoin_row(alloc: Global, row: &Row) -> Result<Box<HealedArcs>, Fail> {
+fn heal_row(alloc: Global, row: &Row) -> Result<Box<HealedArcs>, Fail> {
     let ends = positions(alloc, row.ends)?;
     let whole = topology_of(alloc, &[row.whole])?;
     boxed(alloc, heal(alloc, whole.arcs(), row.kept, &ends))
@@ -177,7 +177,7 @@ fn difference(alloc: Global, made: &HealedArcs, row: &Row) -> Result<&'static st
 #[test]
 fn arcs_and_lists_of_rows(rt: HostRuntime) -> Result<(), Fail> {
     for row in ROWS {
-        let made = rejoin_row(rt.alloc(), row)?;
+        let made = heal_row(rt.alloc(), row)?;
         let difference = difference(rt.alloc(), &*made, row)?;
         assert!(rt; difference.is_empty(), "{}: {difference}", row.title);
     }

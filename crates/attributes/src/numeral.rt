@@ -88,7 +88,7 @@ fn without_zeros(bytes: &[u8]) -> usize
     kept
 }
 
-// The same of the first so many, and without a point at their end.
+// How many of the first so many bytes are left without zeros and a point at the end.
 fn without_point(bytes: &[u8], kept: usize) -> usize
     requires { kept ≤ length bytes.now }
     ensures value { result ≡ point_cut bytes.now kept }

@@ -239,7 +239,7 @@ impl<'a> VisitsSeen<'a> {
         }
     }
 
-    /// The same for an arc of which the other table may have an inner vertex.
+    /// Notes the other visits of an arc of which another table may have an inner vertex.
     fn see_met(
         &mut self,
         other: &VertexFilter,

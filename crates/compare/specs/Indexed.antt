@@ -24,12 +24,12 @@ once (Some (Single k)) = Some k
 once (Some Repeated) = None
 
 -- the orders of what is borrowed
-abbrev pub lent_cmp : Bor Geom → Bor Geom → Ordering
-lent_cmp a b = geometry_order.cmp-value.it a.now b.now
+abbrev pub borrowed_cmp : Bor Geom → Bor Geom → Ordering
+borrowed_cmp a b = geometry_order.cmp-value.it a.now b.now
 
 -- the order of borrowed ids
-abbrev pub lent_id_cmp : Bor Id → Bor Id → Ordering
-lent_id_cmp a b = id_order.cmp-value.it a.now b.now
+abbrev pub borrowed_id_cmp : Bor Id → Bor Id → Ordering
+borrowed_id_cmp a b = id_order.cmp-value.it a.now b.now
 
 -- there is a number
 abbrev pub Found : Option ℕ → Type 0
@@ -42,7 +42,7 @@ StandsBelow gs n g = (k : ℕ) × (k < n) × (slice_get gs k ≡ Some g)
 
 -- the table has the first n geometries
 abbrev pub Knows : List Geom → ℕ → tree.BTreeMap (Bor Geom) ℕ → Type 0
-Knows gs n m = (q : Bor Geom) → Found (tree.get lent_cmp m q) ↔ StandsBelow gs n q.now
+Knows gs n m = (q : Bor Geom) → Found (tree.get borrowed_cmp m q) ↔ StandsBelow gs n q.now
 
 -- where a key occurs once it is at n, by where it stood below
 abbrev pub occurrence_after : ℕ → Option Occurrence → Occurrence
@@ -57,7 +57,7 @@ StandsAs ks n x (Some Repeated) = (j : ℕ) × (k : ℕ) × (¬ (j ≡ k)) × (s
 
 -- the table has where each key is among the first n
 abbrev pub occurrences_of : List Id → ℕ → tree.BTreeMap (Bor Id) Occurrence → Type 0
-occurrences_of ks n m = (q : Bor Id) → StandsAs ks n q.now (tree.get lent_id_cmp m q)
+occurrences_of ks n m = (q : Bor Id) → StandsAs ks n q.now (tree.get borrowed_id_cmp m q)
 
 -- the index of a list of geometries with their keys: which geometries there are, and where each key occurs
 pub record IsIndexOf (gs : List Geom) (ks : List Id) (i : Index) : Type 0 where

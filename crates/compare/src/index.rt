@@ -1,6 +1,6 @@
 //! The geometries of a layer, found by what they are and by their keys.
 ghost use Rattle.compare.specs.Placed.{IsOnly};
-ghost use Rattle.compare.specs.Indexed.{IsIndexOf, Knows, id_none, lent_id_cmp, once, occurrence_after, occurrences_of};
+ghost use Rattle.compare.specs.Indexed.{IsIndexOf, Knows, id_none, borrowed_id_cmp, once, occurrence_after, occurrences_of};
 ghost use Rattle.compare.specs.Keyed.{keys_in};
 ghost use Rattle.std.specs.BTreeMap as tree;
 ghost use Rattle.std.specs.Prelude.{◌≡◌, ◌↔◌, ◌+◌, ◌<◌, IfNone, IfOk, IfSome, IsTrue, List, OnOk, Some, length, slice_get, ℕ};
@@ -61,7 +61,7 @@ fn occurrence_with<'a>(
     key: &'a Id,
     number: usize,
 ) -> Occurrence
-    ensures { result ≡ occurrence_after number (tree.get lent_id_cmp occurrences.now key.entry) }
+    ensures { result ≡ occurrence_after number (tree.get borrowed_id_cmp occurrences.now key.entry) }
 {
     match occurrences.get(&key) {
         Some(_) => Occurrence::Repeated,
@@ -134,7 +134,7 @@ impl<'a> Index<'a> {
 
     /// The number at which a key is, where it occurs once.
     fn place_of(&self, key: &'a Id) -> Option<usize>
-        ensures { result ≡ once (tree.get lent_id_cmp self.now.occurrences key.entry) }
+        ensures { result ≡ once (tree.get borrowed_id_cmp self.now.occurrences key.entry) }
     {
         match self.occurrences.get(&key) {
             Some(Occurrence::Single(number)) => Some(*number),

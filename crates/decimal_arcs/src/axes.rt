@@ -32,7 +32,7 @@ fn snapped_at(axis: &DecimalAxis, step: &DecimalStep, number: i64) -> Option<(i6
     axis.snap_measured(number, step)
 }
 
-// The same for a numeral.
+// The whole number of steps nearest to a numeral, and how far that is from it.
 fn snapped_text(step: &DecimalStep, text: &str) -> Option<(i64, u64)>
     ensures { result ≡ spec.snapped_text step.now text.now }
 {
@@ -166,7 +166,7 @@ pub fn x_number(
     }
 }
 
-/// The same for the second number.
+/// The second number of a position: see `x_number`.
 pub fn y_number(
     quantization: &Quantization,
     sum: Option<i64>,

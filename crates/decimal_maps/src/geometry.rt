@@ -50,7 +50,7 @@ fn read_geometries<'t>(
     Ok((shapes, tally))
 }
 
-// The same, or nothing where the type is that of no collection.
+// The geometries of a collection, or nothing where the type is that of no collection.
 fn read_collected<'t>(
     alloc: Global,
     on: &GeometryStart,

@@ -8,7 +8,7 @@ pub struct DecimalGrid {
     pub step: DecimalStep,
     /// How many steps a first number may be from 0 at most.
     pub greatest_x: u64,
-    /// The same of a second number.
+    /// How many steps a second number may be from 0 at most.
     pub greatest_y: u64,
     /// Whether a position of more than two numbers is a fault.
     pub refuses_heights: bool,

@@ -57,7 +57,7 @@ pub fn form_of(value: &Value<'_>) -> Result<Option<GeometryForm>, FaultKind>
     }
 }
 
-/// The same, where collections are refused if the fixing rules don't split them.
+/// What `type` says that an object is, where collections are refused if the fixing rules don't split them.
 ///
 /// # Errors
 /// The kind of its fault.

@@ -31,7 +31,7 @@ fn ref_at(negative: bool, size: u64) -> ArcRef
     }
 }
 
-// The same, where there are so many arcs.
+// The used arc, where there are so many arcs that it is one of them.
 fn within(count: usize, used: ArcRef) -> Result<ArcRef, FaultKind>
     ensures { result ≡ among count used }
 {

@@ -16,7 +16,7 @@ use Rattle.topo.specs.Parts.{LayerParts, TopologyParts}
 use Rattle.topo.specs.declared.geom.Geom.{Geom}
 use Rattle.difference_text.specs.DifferenceJson.{change_object, difference_json, geometry_member, has_objects, ids_at, is_missing, key_member, layer_objects, member_object, names_text, objects_text, single_object}
 use Rattle.difference_text.specs.DifferenceLines.{change_line, counts_line, difference_lines, geometry_part, ids_part, layer_head, layer_lines, member_line, parts_text, single_line}
-use Rattle.difference_text.specs.DifferenceParts.{ToldLayer, has_other_id, has_some, layer_in, layer_name, told_layer}
+use Rattle.difference_text.specs.DifferenceParts.{LayerReport, has_other_id, has_some, layer_in, layer_name, layer_report}
 use Rattle.difference_text.specs.DifferenceText.{counts_of}
 use Rattle.text_parts.specs.TextParts.{behind_texts, each_text}
 use Rattle.difference_text.specs.declared.difference.ChangeCounts.{ChangeCounts}
@@ -38,12 +38,12 @@ copied_some (Some x) = refl
 
 -- ---- the layers of a name
 
-abbrev pub told_with : Bool → LayerChanges → List ℕ → List Geom → List Geom → ToldLayer
+abbrev pub told_with : Bool → LayerChanges → List ℕ → List Geom → List Geom → LayerReport
 told_with keyed l name gs hs = record { name = name; olds = gs; news = hs; keyed = keyed; changes = l }
 
 pub view_told : (keyed : Bool) (old new : TopologyParts) (l : LayerChanges) {ls ks : List LayerParts} {a b : Option LayerParts} {name : List ℕ} {gs hs : List Geom} → ls ≡ old.layers → ks ≡ new.layers
     → a ≡ layer_in ls l.layers.old → b ≡ layer_in ks l.layers.new → name ≡ layer_name a b → gs ≡ geometries_from ls l.layers.old → hs ≡ geometries_from ks l.layers.new
-    → told_with keyed l name gs hs ≡ told_layer keyed old new l
+    → told_with keyed l name gs hs ≡ layer_report keyed old new l
 view_told keyed old new l {ls} {ks} {a} {b} {name} {gs} {hs} olds news first second named of_old of_new =
     let one : a ≡ layer_in old.layers l.layers.old = first ∙ ap (λ w. layer_in w l.layers.old) olds in
     let two : b ≡ layer_in new.layers l.layers.new = second ∙ ap (λ w. layer_in w l.layers.new) news in
@@ -60,7 +60,7 @@ parts_is c old new {d} {k} {ms} differ members some =
     let any : k ≡ has_some (has_other_id old.id new.id) c.members.items = some ∙ (λ i. has_some (differ i) (members i)) in
     λ i. ids_part old.id new.id ++ (behind_texts (codes "; ") (differ i) member_line (members i) ++ geometry_part (any i) c.geometry old.body new.body)
 
-pub layer_lines_is : (v : ToldLayer) {rs ns : List Single} {cs : List FeatureChange} → rs ≡ v.changes.removed.items → ns ≡ v.changes.added.items → cs ≡ v.changes.changed.items
+pub layer_lines_is : (v : LayerReport) {rs ns : List Single} {cs : List FeatureChange} → rs ≡ v.changes.removed.items → ns ≡ v.changes.added.items → cs ≡ v.changes.changed.items
     → layer_head v.changes.layers.old v.changes.layers.new v.name
     ++ (each_text (single_line (codes "- ") v v.olds) rs ++ (each_text (single_line (codes "+ ") v v.news) ns ++ each_text (change_line v) cs)) ≡ layer_lines v
 layer_lines_is v {rs} {ns} {cs} removed added changed =
@@ -68,12 +68,12 @@ layer_lines_is v {rs} {ns} {cs} removed added changed =
     ++ (each_text (single_line (codes "- ") v v.olds) (removed i) ++ (each_text (single_line (codes "+ ") v v.news) (added i) ++ each_text (change_line v) (changed i)))
 
 pub difference_lines_is : (d : Difference) (old new : TopologyParts) {ls : List LayerChanges} {k : ChangeCounts} → ls ≡ d.layers.items → k ≡ counts_of d.layers.items
-    → each_text (λ l. layer_lines (told_layer d.is_keyed old new l)) ls ++ counts_line k ≡ difference_lines d old new
-difference_lines_is d old new {ls} {k} layers counts = λ i. each_text (λ l. layer_lines (told_layer d.is_keyed old new l)) (layers i) ++ counts_line (counts i)
+    → each_text (λ l. layer_lines (layer_report d.is_keyed old new l)) ls ++ counts_line k ≡ difference_lines d old new
+difference_lines_is d old new {ls} {k} layers counts = λ i. each_text (λ l. layer_lines (layer_report d.is_keyed old new l)) (layers i) ++ counts_line (counts i)
 
 -- ---- the JSON object
 
-pub change_object_is : (v : ToldLayer) (c : FeatureChange) {ms : List MemberChange} → ms ≡ c.members.items
+pub change_object_is : (v : LayerReport) (c : FeatureChange) {ms : List MemberChange} → ms ≡ c.members.items
     → codes "{\"change\":\"changed\""
     ++ (geometry_member c.geometry (slice_get v.olds c.old) (slice_get v.news c.new)
     ++ (codes ",\"id\":" ++ (ids_at (slice_get v.olds c.old) (slice_get v.news c.new)
@@ -84,7 +84,7 @@ change_object_is v c {ms} members =
     ++ (codes ",\"id\":" ++ (ids_at (slice_get v.olds c.old) (slice_get v.news c.new)
     ++ (key_member v c.key ++ (codes ",\"properties\":{" ++ (joined member_object (members i) ++ codes "}}"))))))
 
-pub layer_objects_is : (b : Bool) (v : ToldLayer) {h k : Bool} {rs ns : List Single} {cs : List FeatureChange} → rs ≡ v.changes.removed.items → ns ≡ v.changes.added.items → cs ≡ v.changes.changed.items
+pub layer_objects_is : (b : Bool) (v : LayerReport) {h k : Bool} {rs ns : List Single} {cs : List FeatureChange} → rs ≡ v.changes.removed.items → ns ≡ v.changes.added.items → cs ≡ v.changes.changed.items
     → h ≡ (b || nat_lt 0 (length rs)) → k ≡ (h || nat_lt 0 (length ns))
     → behind_texts (codes ",") b (single_object (codes "removed") v v.olds) rs
     ++ (behind_texts (codes ",") h (single_object (codes "added") v v.news) ns ++ behind_texts (codes ",") k (change_object v) cs) ≡ layer_objects b v
@@ -101,11 +101,11 @@ has_objects_is b l {h} {k} {r} {rs} {ns} {cs} removed added changed olds news la
     let two : k ≡ has_some (has_some b l.removed.items) l.added.items = news ∙ (λ i. has_some (one i) (added i)) in
     last ∙ (λ i. has_some (two i) (changed i))
 
-pub objects_step : (told : LayerChanges → ToldLayer) (b : Bool) {h : Bool} (ls xs : List LayerChanges) (l : LayerChanges) {v : ToldLayer} → ls ≡ l ∷ xs → v ≡ told l → h ≡ has_objects b l
+pub objects_step : (told : LayerChanges → LayerReport) (b : Bool) {h : Bool} (ls xs : List LayerChanges) (l : LayerChanges) {v : LayerReport} → ls ≡ l ∷ xs → v ≡ told l → h ≡ has_objects b l
     → objects_text told b ls ≡ layer_objects b v ++ objects_text told h xs
 objects_step told b {h} ls xs l {v} first view any = ap (objects_text told b) first ∙ (λ i. layer_objects b (sym view i) ++ objects_text told (sym any i) xs)
 
-pub names_step : (told : LayerChanges → ToldLayer) (is_added : Bool) (b : Bool) {h r : Bool} (ls xs : List LayerChanges) (l : LayerChanges) {v : ToldLayer} → ls ≡ l ∷ xs → v ≡ told l → r ≡ is_missing is_added l → h ≡ (b || r)
+pub names_step : (told : LayerChanges → LayerReport) (is_added : Bool) (b : Bool) {h r : Bool} (ls xs : List LayerChanges) (l : LayerChanges) {v : LayerReport} → ls ≡ l ∷ xs → v ≡ told l → r ≡ is_missing is_added l → h ≡ (b || r)
     → names_text told is_added b ls ≡ cond r (cond b (codes ",") [] ++ v.name) [] ++ names_text told is_added h xs
 names_step told is_added b {h} {r} ls xs l {v} first view missing any =
     let more : h ≡ (b || is_missing is_added l) = any ∙ (λ i. b || missing i) in
@@ -114,14 +114,14 @@ names_step told is_added b {h} {r} ls xs l {v} first view missing any =
 pub json_text_is : (d : Difference) (old new : TopologyParts) {k : ChangeCounts} → k ≡ counts_of d.layers.items
     → (codes "{\"added\":" ++ decimal k.added)
     ++ ((codes ",\"changed\":" ++ decimal k.changed)
-    ++ (codes ",\"differences\":[" ++ (objects_text (told_layer d.is_keyed old new) false d.layers.items
-    ++ (codes "],\"layers\":{\"added\":[" ++ (names_text (told_layer d.is_keyed old new) true false d.layers.items
-    ++ (codes "],\"removed\":[" ++ (names_text (told_layer d.is_keyed old new) false false d.layers.items
+    ++ (codes ",\"differences\":[" ++ (objects_text (layer_report d.is_keyed old new) false d.layers.items
+    ++ (codes "],\"layers\":{\"added\":[" ++ (names_text (layer_report d.is_keyed old new) true false d.layers.items
+    ++ (codes "],\"removed\":[" ++ (names_text (layer_report d.is_keyed old new) false false d.layers.items
     ++ ((codes "]},\"removed\":" ++ decimal k.removed) ++ codes "}")))))))) ≡ difference_json d old new
 json_text_is d old new {k} counts =
     λ i. (codes "{\"added\":" ++ decimal (counts i).added)
     ++ ((codes ",\"changed\":" ++ decimal (counts i).changed)
-    ++ (codes ",\"differences\":[" ++ (objects_text (told_layer d.is_keyed old new) false d.layers.items
-    ++ (codes "],\"layers\":{\"added\":[" ++ (names_text (told_layer d.is_keyed old new) true false d.layers.items
-    ++ (codes "],\"removed\":[" ++ (names_text (told_layer d.is_keyed old new) false false d.layers.items
+    ++ (codes ",\"differences\":[" ++ (objects_text (layer_report d.is_keyed old new) false d.layers.items
+    ++ (codes "],\"layers\":{\"added\":[" ++ (names_text (layer_report d.is_keyed old new) true false d.layers.items
+    ++ (codes "],\"removed\":[" ++ (names_text (layer_report d.is_keyed old new) false false d.layers.items
     ++ ((codes "]},\"removed\":" ++ decimal (counts i).removed) ++ codes "}"))))))))

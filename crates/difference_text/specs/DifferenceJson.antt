@@ -12,7 +12,7 @@ use Rattle.topo.specs.OfMap.{IsOf}
 use Rattle.topo.specs.Parts.{TopologyParts}
 use Rattle.topo.specs.Bodies.{Body}
 use Rattle.topo.specs.declared.geom.Geom.{Geom}
-use Rattle.difference_text.specs.DifferenceParts.{ToldLayer, direction_words, has_other_id, has_some, kind_name, text_or, told_layer}
+use Rattle.difference_text.specs.DifferenceParts.{LayerReport, direction_words, has_other_id, has_some, kind_name, text_or, layer_report}
 use Rattle.difference_text.specs.DifferenceLines.{difference_lines}
 use Rattle.difference_text.specs.DifferenceText.{AreAllChanges, counts_of}
 use Rattle.text_parts.specs.TextParts.{behind_texts}
@@ -25,7 +25,7 @@ use Rattle.difference_text.specs.declared.geometry.GeometryChange.TheVariants.{D
 use Rattle.difference_text.specs.declared.members.MemberChange.{MemberChange}
 
 -- the members key, where features pair by a property, and layer
-abbrev pub key_member : ToldLayer → Option (String Global) → List ℕ
+abbrev pub key_member : LayerReport → Option (String Global) → List ℕ
 key_member v key = cond v.keyed (codes ",\"key\":" ++ text_or (codes "null") key) [] ++ (codes ",\"layer\":" ++ v.name)
 
 -- the properties of a geometry, none where there is no geometry
@@ -34,7 +34,7 @@ properties_at None = codes "{}"
 properties_at (Some g) = properties_text g.props
 
 -- a feature that one layer has alone
-abbrev pub single_object : List ℕ → ToldLayer → List Geom → Single → List ℕ
+abbrev pub single_object : List ℕ → LayerReport → List Geom → Single → List ℕ
 single_object word v gs s =
     codes "{\"change\":\""
     ++ (word ++ (codes "\",\"id\":" ++ (id_text_of (slice_get gs s.number) ++ (key_member v s.key ++ (codes ",\"properties\":" ++ (properties_at (slice_get gs s.number) ++ codes "}"))))))
@@ -79,7 +79,7 @@ geometry_member (Some g) (Some old) None = []
 geometry_member (Some g) (Some old) (Some new) = codes ",\"geometry\":" ++ geometry_value g old.body new.body
 
 -- two features that differ
-abbrev pub change_object : ToldLayer → FeatureChange → List ℕ
+abbrev pub change_object : LayerReport → FeatureChange → List ℕ
 change_object v c =
     codes "{\"change\":\"changed\""
     ++ (geometry_member c.geometry (slice_get v.olds c.old) (slice_get v.news c.new)
@@ -87,7 +87,7 @@ change_object v c =
     ++ (key_member v c.key ++ (codes ",\"properties\":{" ++ (joined member_object c.members.items ++ codes "}}"))))))
 
 -- the objects of the layers of a name, behind others where there are some before
-abbrev pub layer_objects : Bool → ToldLayer → List ℕ
+abbrev pub layer_objects : Bool → LayerReport → List ℕ
 layer_objects b v =
     behind_texts (codes ",") b (single_object (codes "removed") v v.olds) v.changes.removed.items
     ++ (behind_texts (codes ",") (has_some b v.changes.removed.items) (single_object (codes "added") v v.news) v.changes.added.items
@@ -98,7 +98,7 @@ abbrev pub has_objects : Bool → LayerChanges → Bool
 has_objects b l = has_some (has_some (has_some b l.removed.items) l.added.items) l.changed.items
 
 -- the objects of all layers
-abbrev pub objects_text : (LayerChanges → ToldLayer) → Bool → List LayerChanges → List ℕ
+abbrev pub objects_text : (LayerChanges → LayerReport) → Bool → List LayerChanges → List ℕ
 objects_text told b [] = []
 objects_text told b (l ∷ ls) = layer_objects b (told l) ++ objects_text told (has_objects b l) ls
 
@@ -108,7 +108,7 @@ is_missing true l = is_none l.layers.old
 is_missing false l = is_none l.layers.new
 
 -- the names of the layers that were added, or were removed
-abbrev pub names_text : (LayerChanges → ToldLayer) → Bool → Bool → List LayerChanges → List ℕ
+abbrev pub names_text : (LayerChanges → LayerReport) → Bool → Bool → List LayerChanges → List ℕ
 names_text told is_added b [] = []
 names_text told is_added b (l ∷ ls) = cond (is_missing is_added l) (cond b (codes ",") [] ++ (told l).name) [] ++ names_text told is_added (b || is_missing is_added l) ls
 
@@ -117,9 +117,9 @@ abbrev pub difference_json : Difference → TopologyParts → TopologyParts → 
 difference_json d old new =
     (codes "{\"added\":" ++ decimal (counts_of d.layers.items).added)
     ++ ((codes ",\"changed\":" ++ decimal (counts_of d.layers.items).changed)
-    ++ (codes ",\"differences\":[" ++ (objects_text (told_layer d.is_keyed old new) false d.layers.items
-    ++ (codes "],\"layers\":{\"added\":[" ++ (names_text (told_layer d.is_keyed old new) true false d.layers.items
-    ++ (codes "],\"removed\":[" ++ (names_text (told_layer d.is_keyed old new) false false d.layers.items
+    ++ (codes ",\"differences\":[" ++ (objects_text (layer_report d.is_keyed old new) false d.layers.items
+    ++ (codes "],\"layers\":{\"added\":[" ++ (names_text (layer_report d.is_keyed old new) true false d.layers.items
+    ++ (codes "],\"removed\":[" ++ (names_text (layer_report d.is_keyed old new) false false d.layers.items
     ++ ((codes "]},\"removed\":" ++ decimal (counts_of d.layers.items).removed) ++ codes "}"))))))))
 
 -- as a JSON object, or as lines

@@ -11,7 +11,7 @@ use Rattle.sinks.specs.Texts.{option_text}
 use Rattle.topo.specs.Parts.{TopologyParts}
 use Rattle.topo.specs.Bodies.{Body}
 use Rattle.topo.specs.declared.geom.Geom.{Geom}
-use Rattle.difference_text.specs.DifferenceParts.{ToldLayer, direction_words, has_other_id, has_some, kind_name, text_or, told_layer}
+use Rattle.difference_text.specs.DifferenceParts.{LayerReport, direction_words, has_other_id, has_some, kind_name, text_or, layer_report}
 use Rattle.difference_text.specs.DifferenceText.{counts_of}
 use Rattle.text_parts.specs.TextParts.{behind_texts, each_text}
 use Rattle.difference_text.specs.declared.difference.ChangeCounts.{ChangeCounts}
@@ -29,15 +29,15 @@ layer_head (Some i) None name = codes "- layer " ++ (name ++ codes "\n")
 layer_head (Some i) (Some j) name = []
 
 -- a layer's name, and the key or the id of a feature
-abbrev pub feature_name : ToldLayer → Option (String Global) → Id → List ℕ
+abbrev pub feature_name : LayerReport → Option (String Global) → Id → List ℕ
 feature_name v key id = v.name ++ (codes " " ++ (cond v.keyed (text_or (codes "null") key) (id_value_text id) ++ codes " "))
 
 -- the line of a feature that one layer has alone
-abbrev pub single_text : List ℕ → ToldLayer → Single → Geom → List ℕ
+abbrev pub single_text : List ℕ → LayerReport → Single → Geom → List ℕ
 single_text sign v s g = sign ++ (feature_name v s.key g.id ++ (properties_text g.props ++ codes "\n"))
 
 -- the same by its number
-abbrev pub single_line : List ℕ → ToldLayer → List Geom → Single → List ℕ
+abbrev pub single_line : List ℕ → LayerReport → List Geom → Single → List ℕ
 single_line sign v gs s = option_text (single_text sign v s) (slice_get gs s.number)
 
 -- the ids, where they differ
@@ -74,21 +74,21 @@ parts_text c old new =
     ++ (behind_texts (codes "; ") (has_other_id old.id new.id) member_line c.members.items ++ geometry_part (has_some (has_other_id old.id new.id) c.members.items) c.geometry old.body new.body)
 
 -- the line of two features that differ
-abbrev pub change_text : ToldLayer → FeatureChange → Geom → Geom → List ℕ
+abbrev pub change_text : LayerReport → FeatureChange → Geom → Geom → List ℕ
 change_text v c old new = codes "~ " ++ (feature_name v c.key old.id ++ (parts_text c old new ++ codes "\n"))
 
 -- the same, where there are both
-abbrev pub pair_line : ToldLayer → FeatureChange → Option Geom → Option Geom → List ℕ
+abbrev pub pair_line : LayerReport → FeatureChange → Option Geom → Option Geom → List ℕ
 pair_line v c None new = []
 pair_line v c (Some old) None = []
 pair_line v c (Some old) (Some new) = change_text v c old new
 
 -- the same by their numbers
-abbrev pub change_line : ToldLayer → FeatureChange → List ℕ
+abbrev pub change_line : LayerReport → FeatureChange → List ℕ
 change_line v c = pair_line v c (slice_get v.olds c.old) (slice_get v.news c.new)
 
 -- the lines of the layers of a name
-abbrev pub layer_lines : ToldLayer → List ℕ
+abbrev pub layer_lines : LayerReport → List ℕ
 layer_lines v =
     layer_head v.changes.layers.old v.changes.layers.new v.name
     ++ (each_text (single_line (codes "- ") v v.olds) v.changes.removed.items
@@ -108,4 +108,4 @@ counts_line k =
 
 -- the lines of a difference
 abbrev pub difference_lines : Difference → TopologyParts → TopologyParts → List ℕ
-difference_lines d old new = each_text (λ l. layer_lines (told_layer d.is_keyed old new l)) d.layers.items ++ counts_line (counts_of d.layers.items)
+difference_lines d old new = each_text (λ l. layer_lines (layer_report d.is_keyed old new l)) d.layers.items ++ counts_line (counts_of d.layers.items)

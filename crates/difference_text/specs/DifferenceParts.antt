@@ -15,7 +15,7 @@ use Rattle.difference_text.specs.declared.difference.LayerChanges.{LayerChanges}
 use Rattle.difference_text.specs.declared.parts.LayerView.{LayerView}
 
 -- what is told of the layers of a name: the name as JSON, the geometries that each topology has there, whether features pair by a property, and what differs
-pub record ToldLayer : Type 0 where
+pub record LayerReport : Type 0 where
   pub name : List ℕ
   pub olds : List Geom
   pub news : List Geom
@@ -34,8 +34,8 @@ layer_name None (Some l) = spelling_of (spelled_text l.name)
 layer_name None None = []
 
 -- what is told of the layers of two topologies between which that differs
-abbrev pub told_layer : Bool → TopologyParts → TopologyParts → LayerChanges → ToldLayer
-told_layer keyed old new l = record {
+abbrev pub layer_report : Bool → TopologyParts → TopologyParts → LayerChanges → LayerReport
+layer_report keyed old new l = record {
   name = layer_name (layer_in old.layers l.layers.old) (layer_in new.layers l.layers.new);
   olds = geometries_from old.layers l.layers.old;
   news = geometries_from new.layers l.layers.new;
@@ -44,8 +44,8 @@ told_layer keyed old new l = record {
 }
 
 -- the same of a view of them
-abbrev pub told_of : LayerView → ToldLayer
-told_of v = record { name = v.name.now; olds = v.olds.now; news = v.news.now; keyed = v.is_keyed; changes = v.changes.now }
+abbrev pub report_of : LayerView → LayerReport
+report_of v = record { name = v.name.now; olds = v.olds.now; news = v.news.now; keyed = v.is_keyed; changes = v.changes.now }
 
 -- a compact text, or other words where it is missing
 abbrev pub text_or : List ℕ → Option (String Global) → List ℕ

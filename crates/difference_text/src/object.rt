@@ -1,6 +1,6 @@
 //! What differs, as one JSON object, compact and with its members in byte order.
 ghost use Rattle.difference_text.specs.DifferenceJson.{change_object, difference_json, geometry_member, geometry_value, has_objects, ids_at, ids_text, is_missing, key_member, kinds_member, layer_objects, member_object, member_values, names_text, objects_text, properties_at, single_object};
-ghost use Rattle.difference_text.specs.DifferenceParts.{told_layer, told_of};
+ghost use Rattle.difference_text.specs.DifferenceParts.{layer_report, report_of};
 ghost use Rattle.query.specs.AnswerTexts.{id_text_of};
 ghost use Rattle.sinks.specs.Writes.{TookAll, TookPart};
 ghost use Rattle.std.specs.Prelude.{◌≡◌, ◌||◌, OnErr, OnOk, false, slice_get};
@@ -20,7 +20,7 @@ use topo::{Body, Geom, Topology};
 struct KeyMember<'a>(LayerView<'a>, &'a Option<String>);
 
 impl<'a> Written for KeyMember<'a> {
-    ghost text = { λ k. key_member (told_of k.0) k.1.now };
+    ghost text = { λ k. key_member (report_of k.0) k.1.now };
 
     fn write<W: Sink>(&self, sink: &mut W) -> Result<(), WriteFault> {
         let key = Then(Text(b",\"key\":"), TextOr("null", self.1));
@@ -64,7 +64,7 @@ impl<'a> Written for PropertiesAt<'a> {
 struct SingleObjects<'a>(&'a str, LayerView<'a>, &'a [Geom]);
 
 impl<'a> Notation<Single> for SingleObjects<'a> {
-    ghost text = { λ o s. single_object o.0.now (told_of o.1) o.2.now s };
+    ghost text = { λ o s. single_object o.0.now (report_of o.1) o.2.now s };
 
     fn write_value<W: Sink>(&self, value: &Single, sink: &mut W) -> Result<(), WriteFault> {
         let properties = Then(PropertiesAt(self.2, value.number), Text(b"}"));
@@ -214,7 +214,7 @@ impl<'a> Written for GeometryMember<'a> {
 struct ChangeObjects<'a>(LayerView<'a>);
 
 impl<'a> Notation<FeatureChange> for ChangeObjects<'a> {
-    ghost text = { λ o c. change_object (told_of o.0) c };
+    ghost text = { λ o c. change_object (report_of o.0) c };
 
     fn write_value<W: Sink>(&self, value: &FeatureChange, sink: &mut W) -> Result<(), WriteFault> {
         let members = Each(value.members.as_slice(), &MemberObjects);
@@ -231,7 +231,7 @@ impl<'a> Notation<FeatureChange> for ChangeObjects<'a> {
 struct LayerChangeObjects<'a>(bool, LayerView<'a>);
 
 impl<'a> Written for LayerChangeObjects<'a> {
-    ghost text = { λ o. layer_objects o.0 (told_of o.1) };
+    ghost text = { λ o. layer_objects o.0 (report_of o.1) };
 
     fn write<W: Sink>(&self, sink: &mut W) -> Result<(), WriteFault> {
         let layer = self.1;
@@ -274,7 +274,7 @@ fn has_objects(before: bool, changes: &LayerChanges) -> bool
 struct DifferenceObjects<'a>(View<'a>);
 
 impl<'a> Written for DifferenceObjects<'a> {
-    ghost text = { λ o. objects_text (told_layer o.0.difference.now.is_keyed o.0.old.now o.0.new.now) false o.0.difference.now.layers.items };
+    ghost text = { λ o. objects_text (layer_report o.0.difference.now.is_keyed o.0.old.now o.0.new.now) false o.0.difference.now.layers.items };
 
     fn write<W: Sink>(&self, sink: &mut W) -> Result<(), WriteFault> {
         write_objects(sink, self.0, self.0.difference.layers.as_slice())
@@ -286,8 +286,8 @@ fn write_objects<W: Sink>(
     view: View<'_>,
     layers: &[LayerChanges],
 ) -> Result<(), WriteFault>
-    ensures whole { OnOk result (TookAll (W.seen sink.old) (W.seen sink.new) (objects_text (told_layer view.entry.difference.now.is_keyed view.entry.old.now view.entry.new.now) false layers.now)) }
-    ensures part { OnErr result (TookPart (W.seen sink.old) (W.seen sink.new) (objects_text (told_layer view.entry.difference.now.is_keyed view.entry.old.now view.entry.new.now) false layers.now)) }
+    ensures whole { OnOk result (TookAll (W.seen sink.old) (W.seen sink.new) (objects_text (layer_report view.entry.difference.now.is_keyed view.entry.old.now view.entry.new.now) false layers.now)) }
+    ensures part { OnErr result (TookPart (W.seen sink.old) (W.seen sink.new) (objects_text (layer_report view.entry.difference.now.is_keyed view.entry.old.now view.entry.new.now) false layers.now)) }
 {
     let mut is_behind = false;
     let mut left = layers;
@@ -324,7 +324,7 @@ fn is_either(one: bool, other: bool) -> bool
 struct LayerNames<'a>(View<'a>, bool);
 
 impl<'a> Written for LayerNames<'a> {
-    ghost text = { λ n. names_text (told_layer n.0.difference.now.is_keyed n.0.old.now n.0.new.now) n.1 false n.0.difference.now.layers.items };
+    ghost text = { λ n. names_text (layer_report n.0.difference.now.is_keyed n.0.old.now n.0.new.now) n.1 false n.0.difference.now.layers.items };
 
     fn write<W: Sink>(&self, sink: &mut W) -> Result<(), WriteFault> {
         write_names(sink, self.0, self.1, self.0.difference.layers.as_slice())
@@ -337,8 +337,8 @@ fn write_names<W: Sink>(
     is_added: bool,
     layers: &[LayerChanges],
 ) -> Result<(), WriteFault>
-    ensures whole { OnOk result (TookAll (W.seen sink.old) (W.seen sink.new) (names_text (told_layer view.entry.difference.now.is_keyed view.entry.old.now view.entry.new.now) is_added false layers.now)) }
-    ensures part { OnErr result (TookPart (W.seen sink.old) (W.seen sink.new) (names_text (told_layer view.entry.difference.now.is_keyed view.entry.old.now view.entry.new.now) is_added false layers.now)) }
+    ensures whole { OnOk result (TookAll (W.seen sink.old) (W.seen sink.new) (names_text (layer_report view.entry.difference.now.is_keyed view.entry.old.now view.entry.new.now) is_added false layers.now)) }
+    ensures part { OnErr result (TookPart (W.seen sink.old) (W.seen sink.new) (names_text (layer_report view.entry.difference.now.is_keyed view.entry.old.now view.entry.new.now) is_added false layers.now)) }
 {
     let mut is_behind = false;
     let mut left = layers;

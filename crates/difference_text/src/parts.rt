@@ -1,5 +1,5 @@
 //! Parts that lines and the JSON object share.
-ghost use Rattle.difference_text.specs.DifferenceParts.{direction_words, has_other_id, kind_name, layer_name, text_or, told_layer, told_of};
+ghost use Rattle.difference_text.specs.DifferenceParts.{direction_words, has_other_id, kind_name, layer_name, text_or, layer_report, report_of};
 ghost use Rattle.query.specs.AnswerTexts.{id_value_text};
 ghost use Rattle.sinks.specs.Writes.{TookAll, TookPart};
 ghost use Rattle.std.specs.Option.{option_copied};
@@ -47,7 +47,7 @@ fn name_of<'a>(layer: Option<&'a Layer>, other: Option<&'a Layer>) -> &'a str
 
 impl<'a> View<'a> {
     pub(crate) fn layer(&self, changes: &'a LayerChanges) -> LayerView<'a>
-        ensures { told_of result ≡ told_layer self.now.difference.now.is_keyed self.now.old.now self.now.new.now changes.now }
+        ensures { report_of result ≡ layer_report self.now.difference.now.is_keyed self.now.old.now self.now.new.now changes.now }
     {
         let old = self.old.layers();
         let new = self.new.layers();

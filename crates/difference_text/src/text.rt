@@ -1,6 +1,6 @@
 //! What differs, as lines for people.
 ghost use Rattle.difference_text.specs.DifferenceLines.{change_line, change_text, counts_line, difference_lines, feature_name, geometry_line, geometry_part, gone_text, ids_part, kinds_part, layer_head, layer_lines, layers_part, member_line, parts_text, single_line, single_text};
-ghost use Rattle.difference_text.specs.DifferenceParts.{told_layer, told_of};
+ghost use Rattle.difference_text.specs.DifferenceParts.{layer_report, report_of};
 ghost use Rattle.sinks.specs.Writes.{TookAll, TookPart};
 ghost use Rattle.std.specs.Prelude.{OnErr, OnOk};
 
@@ -39,7 +39,7 @@ impl<'a> Written for LayerHead<'a> {
 struct FeatureName<'a>(LayerView<'a>, &'a Option<String>, &'a Id);
 
 impl<'a> Written for FeatureName<'a> {
-    ghost text = { λ n. feature_name (told_of n.0) n.1.now n.2.now };
+    ghost text = { λ n. feature_name (report_of n.0) n.1.now n.2.now };
 
     fn write<W: Sink>(&self, sink: &mut W) -> Result<(), WriteFault> {
         let name = OneOf(self.0.is_keyed, TextOr("null", self.1), IdText(self.2));
@@ -53,7 +53,7 @@ impl<'a> Written for FeatureName<'a> {
 struct SingleText<'a>(&'a str, LayerView<'a>, &'a Single, &'a Geom);
 
 impl<'a> Written for SingleText<'a> {
-    ghost text = { λ s. single_text s.0.now (told_of s.1) s.2.now s.3.now };
+    ghost text = { λ s. single_text s.0.now (report_of s.1) s.2.now s.3.now };
 
     fn write<W: Sink>(&self, sink: &mut W) -> Result<(), WriteFault> {
         let name = FeatureName(self.1, &self.2.key, &self.3.id);
@@ -67,7 +67,7 @@ impl<'a> Written for SingleText<'a> {
 struct SingleLines<'a>(&'a str, LayerView<'a>, &'a [Geom]);
 
 impl<'a> Notation<Single> for SingleLines<'a> {
-    ghost text = { λ l s. single_line l.0.now (told_of l.1) l.2.now s };
+    ghost text = { λ l s. single_line l.0.now (report_of l.1) l.2.now s };
 
     fn write_value<W: Sink>(&self, value: &Single, sink: &mut W) -> Result<(), WriteFault> {
         match self.2.get(value.number) {
@@ -204,7 +204,7 @@ impl<'a> Written for PartsText<'a> {
 struct ChangeText<'a>(LayerView<'a>, &'a FeatureChange, &'a Geom, &'a Geom);
 
 impl<'a> Written for ChangeText<'a> {
-    ghost text = { λ c. change_text (told_of c.0) c.1.now c.2.now c.3.now };
+    ghost text = { λ c. change_text (report_of c.0) c.1.now c.2.now c.3.now };
 
     fn write<W: Sink>(&self, sink: &mut W) -> Result<(), WriteFault> {
         let name = FeatureName(self.0, &self.1.key, &self.2.id);
@@ -218,7 +218,7 @@ impl<'a> Written for ChangeText<'a> {
 struct ChangeLines<'a>(LayerView<'a>);
 
 impl<'a> Notation<FeatureChange> for ChangeLines<'a> {
-    ghost text = { λ l c. change_line (told_of l.0) c };
+    ghost text = { λ l c. change_line (report_of l.0) c };
 
     fn write_value<W: Sink>(&self, value: &FeatureChange, sink: &mut W) -> Result<(), WriteFault> {
         match self.0.olds.get(value.old) {
@@ -236,7 +236,7 @@ impl<'a> Notation<FeatureChange> for ChangeLines<'a> {
 struct LayerChangeLines<'a>(LayerView<'a>);
 
 impl<'a> Written for LayerChangeLines<'a> {
-    ghost text = { λ l. layer_lines (told_of l.0) };
+    ghost text = { λ l. layer_lines (report_of l.0) };
 
     fn write<W: Sink>(&self, sink: &mut W) -> Result<(), WriteFault> {
         let layer = self.0;
@@ -257,7 +257,7 @@ impl<'a> Written for LayerChangeLines<'a> {
 struct LayersAsLines<'a>(View<'a>);
 
 impl<'a> Notation<LayerChanges> for LayersAsLines<'a> {
-    ghost text = { λ v l. layer_lines (told_layer v.0.difference.now.is_keyed v.0.old.now v.0.new.now l) };
+    ghost text = { λ v l. layer_lines (layer_report v.0.difference.now.is_keyed v.0.old.now v.0.new.now l) };
 
     fn write_value<W: Sink>(&self, value: &LayerChanges, sink: &mut W) -> Result<(), WriteFault> {
         LayerChangeLines(self.0.layer(value)).write(sink)

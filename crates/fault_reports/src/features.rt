@@ -71,7 +71,7 @@ fn steps_in_geojson(text: &Value, path: &[Step]) -> Option<usize>
     }
 }
 
-/// The same in a topology.
+/// How many steps lead to the geometry that an error of a topology lies in, where it lies in one.
 fn steps_in_topology(text: &Value, path: &[Step]) -> Option<usize>
     ensures is { result ≡ steps_in_topology (view text.now) (map turn_of path.now) }
     ensures within { IfSome result (λ n. n ≤ length path.now) }

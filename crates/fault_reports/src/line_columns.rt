@@ -77,7 +77,7 @@ pub fn line_columns(
     places_in_order(alloc, text, sorted.as_slice())
 }
 
-/// The same of offsets in their order, each with its number.
+/// The lines and columns of offsets in their order, each with its number.
 fn places_in_order(
     alloc: Global,
     text: &[u8],

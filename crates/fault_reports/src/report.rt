@@ -42,7 +42,7 @@ fn spell_id(alloc: Global, id: Option<&Value>) -> Result<Option<SharedText>, Out
     }
 }
 
-/// The same id, with one owner more.
+/// An id, with one owner more.
 fn share_id(id: &Option<SharedText>) -> Result<Option<SharedText>, OutOfMemory>
     ensures { IfOk result (λ o. o ≡ id.now) }
 {

@@ -190,7 +190,7 @@ pub fn write_first_lines<W: Sink>(
     write_up_to(10, file, reports, is_explained, sink)
 }
 
-/// The same with another limit than ten.
+/// Writes the first lines up to a limit.
 fn write_up_to<W: Sink>(
     limit: usize,
     file: &str,

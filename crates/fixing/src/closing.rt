@@ -26,7 +26,7 @@ pub(crate) fn close(ring: Vec<Pos>, rules: &FixingRules) -> Result<Vec<Pos>, All
     Ok(ring)
 }
 
-/// The same, counted.
+/// `close`, and counts the rings that it closed.
 pub(crate) fn close_counted(
     ring: Vec<Pos>,
     rules: &FixingRules,

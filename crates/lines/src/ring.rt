@@ -64,7 +64,7 @@ impl Ring {
         Ok(Ring::turn_to_least(closed))
     }
 
-    /// The same, where the caller knows that the list is a ring's: nothing is tested.
+    /// The ring of a closed list that the caller knows to be a ring's: nothing is tested.
     pub fn from_sound(mut closed: Vec<Pos>) -> Ring
         requires { ring_fault position_cmp closed.items ≡ None }
         ensures { vertices_of result ≡ ring_of position_cmp closed.items }

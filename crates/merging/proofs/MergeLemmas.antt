@@ -109,11 +109,11 @@ mapped_twice g f [] = refl
 mapped_twice g f (x ∷ xs) = ap (λ w. g (f x) ∷ w) (mapped_twice g f xs)
 
 -- borrowed texts have the bytes of the texts
-pub lent_bytes : {T : Type 0} (bytes : T → List ℕ) (lent : List (Bor T)) (texts : List T) → map (λ t. t.now) lent ≡ texts → map (λ t. bytes t.now) lent ≡ map bytes texts
-lent_bytes bytes lent texts e = mapped_twice bytes (λ t. t.now) lent ∙ ap (map bytes) e
+pub borrowed_bytes : {T : Type 0} (bytes : T → List ℕ) (borrowed : List (Bor T)) (texts : List T) → map (λ t. t.now) borrowed ≡ texts → map (λ t. bytes t.now) borrowed ≡ map bytes texts
+borrowed_bytes bytes borrowed texts e = mapped_twice bytes (λ t. t.now) borrowed ∙ ap (map bytes) e
 
-pub lent_count : {T : Type 0} (lent : List (Bor T)) (texts : List T) → map (λ t. t.now) lent ≡ texts → length lent ≡ length texts
-lent_count lent texts e = sym (length_bytes (λ t. t.now) lent) ∙ ap length e
+pub borrowed_count : {T : Type 0} (borrowed : List (Bor T)) (texts : List T) → map (λ t. t.now) borrowed ≡ texts → length borrowed ≡ length texts
+borrowed_count borrowed texts e = sym (length_bytes (λ t. t.now) borrowed) ∙ ap length e
 
 prefix_mapped : {S M : Type 0} (p : M → Bool) (f : S → M) (ss : List S) → prefix_len p (map f ss) ≡ prefix_len (λ s. p (f s)) ss
 prefix_mapped p f [] = refl

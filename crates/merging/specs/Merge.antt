@@ -25,8 +25,8 @@ abbrev pub bytes_of : List (Vec ℕ Global) → List (List ℕ)
 bytes_of texts = map (λ t. t.items) texts
 
 -- the bytes of each borrowed text
-abbrev pub lent_texts : List (Bor (List ℕ)) → List (List ℕ)
-lent_texts texts = map (λ t. t.now) texts
+abbrev pub borrowed_texts : List (Bor (List ℕ)) → List (List ℕ)
+borrowed_texts texts = map (λ t. t.now) texts
 
 -- the indexes of all items of a list
 abbrev pub all_indexes : {A : Type 0} → List A → List ℕ

@@ -16,7 +16,7 @@ use Rattle.theory.specs.ArcNumbers.{ArcRef, StitchTo, along}
 use Rattle.theory.specs.LinesAndRings.{IsRotation, closed}
 use Rattle.theory.specs.Lists.{Pairwise}
 use Rattle.theory.specs.Refinement.{replaced}
-use Rattle.split_heal.specs.HealedParts.{RejoinedParts}
+use Rattle.split_heal.specs.HealedParts.{HealedParts}
 use Rattle.topo.specs.Features.{IsLineOf, IsRingOf, IsShapeOf}
 use Rattle.topo.specs.Parts.{LayerParts}
 use Rattle.topo.specs.Bodies as bodies
@@ -90,7 +90,7 @@ module _ (table : List (List Pos)) where
       let t = elsewhere table (take (place_of a others) others) (drop (place_of a others) others) q h in
       (t.0, t.1, subst (λ w. StitchTo table w (closed t.0)) (take-append-drop (place_of a others) others) t.2)
 
-  module _ (arcs : List (List Pos)) (pieces : List (List ArcRef)) (r : RejoinedParts) (split : AreSplit table arcs pieces) (joined : AreJoinedOf table r.arcs.arcs r.pieces) where
+  module _ (arcs : List (List Pos)) (pieces : List (List ArcRef)) (r : HealedParts) (split : AreSplit table arcs pieces) (joined : AreJoinedOf table r.arcs.arcs r.pieces) where
     line_kept : (l : the_line.Line) (used : List ArcRef) → IsLineOf r.arcs.arcs l (line_healed pieces r used) → IsLineOf arcs l used
     line_kept l used h =
         let list = line_joined pieces r used in
@@ -139,7 +139,7 @@ module _ (table : List (List Pos)) where
     layers_kept ls = mapped_each (KeepsLayer arcs r.arcs.arcs) (layer_healed pieces r) layer_kept ls
 
 -- the ids stay
-pub ids_kept : (pieces : List (List ArcRef)) (r : RejoinedParts) (ls : List LayerParts) → HaveI64 ls → HaveI64 (map (layer_healed pieces r) ls)
+pub ids_kept : (pieces : List (List ArcRef)) (r : HealedParts) (ls : List LayerParts) → HaveI64 ls → HaveI64 (map (layer_healed pieces r) ls)
 ids_kept pieces r [] h = tt
 ids_kept pieces r (l ∷ ls) h = (of_layer l.geometries h.0, ids_kept pieces r ls h.1)
   where

@@ -5,9 +5,9 @@ use Rattle.grid.specs.declared.pos.Pos.{Pos}
 use Rattle.lines.specs.Turned.{position_cmp}
 use Rattle.theory.specs.ArcNumbers.{ArcRef}
 use Rattle.theory.specs.Refinement.{replaced}
-use Rattle.theory.specs.Healing.{rejoined, ring_rejoined}
+use Rattle.theory.specs.Healing.{healed_list, healed_ring_list}
 use Rattle.arcs.specs.contracts.table.ArcRefPartialEq.TheImpl as ref_eq
-use Rattle.split_heal.specs.HealedParts.{RejoinedParts}
+use Rattle.split_heal.specs.HealedParts.{HealedParts}
 use Rattle.split_heal.specs.Starts.{starts_by}
 use Rattle.topo.specs.Rewritten.{geometry_rewritten, layer_rewritten}
 use Rattle.topo.specs.Parts.{LayerParts}
@@ -54,27 +54,27 @@ abbrev pub listed_if : Bool → List (List Pos) → List ArcRef → List ArcRef
 listed_if b arcs used = cond b used (nowhere arcs)
 
 -- the list by the healed arcs, before it is compared
-abbrev pub line_joined : List (List ArcRef) → RejoinedParts → List ArcRef → List ArcRef
-line_joined pieces r used = rejoined (starts_by r.pieces) 0 (replaced pieces used)
+abbrev pub line_joined : List (List ArcRef) → HealedParts → List ArcRef → List ArcRef
+line_joined pieces r used = healed_list (starts_by r.pieces) 0 (replaced pieces used)
 
 -- the list of a ring by the healed arcs, before it is compared
-abbrev pub ring_joined : List (List ArcRef) → RejoinedParts → List ArcRef → List ArcRef
-ring_joined pieces r used = ring_rejoined position_cmp r.arcs.arcs (starts_by r.pieces) (replaced pieces used)
+abbrev pub ring_joined : List (List ArcRef) → HealedParts → List ArcRef → List ArcRef
+ring_joined pieces r used = healed_ring_list position_cmp r.arcs.arcs (starts_by r.pieces) (replaced pieces used)
 
 -- the list of a line by the healed arcs
-abbrev pub line_healed : List (List ArcRef) → RejoinedParts → List ArcRef → List ArcRef
+abbrev pub line_healed : List (List ArcRef) → HealedParts → List ArcRef → List ArcRef
 line_healed pieces r used =
     listed_if (all_have_pieces pieces used && same_refs (replaced r.pieces (line_joined pieces r used)) (replaced pieces used)) r.arcs.arcs (line_joined pieces r used)
 
 -- the list of a ring
-abbrev pub ring_healed : List (List ArcRef) → RejoinedParts → List ArcRef → List ArcRef
+abbrev pub ring_healed : List (List ArcRef) → HealedParts → List ArcRef → List ArcRef
 ring_healed pieces r used =
     listed_if (all_have_pieces pieces used && same_refs (replaced r.pieces (ring_joined pieces r used)) (begun_as (replaced r.pieces (ring_joined pieces r used)) (replaced pieces used))) r.arcs.arcs (ring_joined pieces r used)
 
 -- a geometry by the healed arcs
-abbrev pub geometry_healed : List (List ArcRef) → RejoinedParts → Geom → Geom
+abbrev pub geometry_healed : List (List ArcRef) → HealedParts → Geom → Geom
 geometry_healed pieces r = geometry_rewritten (line_healed pieces r) (ring_healed pieces r)
 
 -- a layer by the healed arcs
-abbrev pub layer_healed : List (List ArcRef) → RejoinedParts → LayerParts → LayerParts
+abbrev pub layer_healed : List (List ArcRef) → HealedParts → LayerParts → LayerParts
 layer_healed pieces r = layer_rewritten (line_healed pieces r) (ring_healed pieces r)

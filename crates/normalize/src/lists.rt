@@ -94,7 +94,7 @@ impl NewLists for HealedLists<'_> {
         self.nowhere(alloc)
     }
 
-    /// The same of a ring, whose pieces may begin elsewhere.
+    /// The list of a ring by the healed arcs, if these have its pieces, which may begin elsewhere.
     fn ring(&self, alloc: Global, used: &[ArcRef]) -> Result<Vec<ArcRef>, OutOfMemory> {
         let pieces = replace_arcs(alloc, self.split, used)?;
         let list = self.joined.ring(alloc, &pieces)?;

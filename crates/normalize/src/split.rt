@@ -72,7 +72,7 @@ fn checked_pieces(alloc: Global, table: &ArcTable, arc: &[Pos], found: Vec<ArcRe
     }
 }
 
-/// The same by the arc's number.
+/// The pieces that were found of the arc of a number, if they stitch to it.
 fn pieces_of_number(
     alloc: Global,
     table: &ArcTable,

@@ -10,7 +10,7 @@ use Rattle.topo.specs.Parts.{IsOfLayerNamed, TopologyParts}
 use Rattle.topo.specs.declared.geom.Geom.{Geom}
 use Rattle.topo_io.specs.Means.{MeansTopology}
 use Rattle.noshinka.proofs.PartRefusals.{choice_question, layer_question, scope_question, text_question}
-use Rattle.noshinka.specs.Asking.{AreWithIds, HasMeshChoices, IsBordersText, IsIdsRefusal, IsListsRefusal, IsListsText, IsMeshRefusal, IsMeshText, IsNeighborsAnswer, IsNeighborsRefusal, are_neighbors_choices, by_of, ids_text, layer_of, lists_text}
+use Rattle.noshinka.specs.Asking.{AreWithIds, HasMeshOptions, IsBordersText, IsIdsRefusal, IsListsRefusal, IsListsText, IsMeshRefusal, IsMeshText, IsNeighborsAnswer, IsNeighborsRefusal, are_neighbors_options, by_of, ids_text, layer_of, lists_text}
 use Rattle.noshinka.specs.Keys.{has_key_twice}
 use Rattle.c_calls.specs.Options.{edges_of, lacks_id, name_if}
 use Rattle.c_calls.specs.Why.{IsBadName, IsBadNameIf, IsChoiceRefusal, IsLayerRefusal, IsScopeRefusal, IsTextRefusal, of_query}
@@ -37,7 +37,7 @@ mesh_text_refused o text r h = inr (text_question _ text (layer_of o) r h)
 pub mesh_layer : (o : MeshOptions) (text : List ℕ) (t : TopologyParts) → MeansTopology text t → (scope : Option (List ℕ)) → scope ≡ layer_of o → (r : CallRefusal) → IsLayerRefusal t scope r → IsMeshRefusal o text r
 mesh_layer o text t means scope e r h = inr (layer_question _ text (layer_of o) t means r (subst (λ s. IsLayerRefusal t s r) e h))
 
-pub mesh_answer : (o : MeshOptions) (text t : List ℕ) (whole : TopologyParts) → HasMeshChoices o → MeansTopology text whole → {scope by : Option (List ℕ)} {edges : Edges} → scope ≡ layer_of o → by ≡ by_of o → edges ≡ edges_of o.edges →
+pub mesh_answer : (o : MeshOptions) (text t : List ℕ) (whole : TopologyParts) → HasMeshOptions o → MeansTopology text whole → {scope by : Option (List ℕ)} {edges : Edges} → scope ≡ layer_of o → by ≡ by_of o → edges ≡ edges_of o.edges →
     IsBordersText whole scope by edges t → IsMeshText o text t
 mesh_answer o text t whole chosen means {scope} {by} {edges} e f g is = record {
   chosen = chosen;
@@ -50,8 +50,8 @@ pub lists_not_asked : (t : TopologyParts) (name : List ℕ) (form : ℕ) {T : Ty
 lists_not_asked t name form query.NoLayer h = inr (inl (refl, λ m of. (h m of).0 refl))
 lists_not_asked t name form query.OutOfMemory h = inl refl
 
-pub neighbors_choices : (o : NeighborsOptions) (text name : List ℕ) → are_neighbors_choices o ≡ false → IsNeighborsRefusal o text name BadChoice
-neighbors_choices o text name h = inl (refl, h)
+pub neighbors_options : (o : NeighborsOptions) (text name : List ℕ) → are_neighbors_options o ≡ false → IsNeighborsRefusal o text name BadChoice
+neighbors_options o text name h = inl (refl, h)
 
 pub neighbors_property : (o : NeighborsOptions) (text name : List ℕ) (r : CallRefusal) → IsBadNameIf (nat_eq o.kind 1) o.property.now r → IsNeighborsRefusal o text name r
 neighbors_property o text name r h = inr (inl h)
@@ -65,7 +65,7 @@ neighbors_text_refused o text name r h = inr (inr (inr (inl h)))
 pub neighbors_lists : (o : NeighborsOptions) (text name : List ℕ) (t : TopologyParts) → MeansTopology text t → (n : List ℕ) → n ≡ name → (r : CallRefusal) → IsListsRefusal t n o.lists r → IsNeighborsRefusal o text name r
 neighbors_lists o text name t means n e r h = inr (inr (inr (inr (t, (means, subst (λ x. IsListsRefusal t x o.lists r) e h)))))
 
-pub neighbors_answer : (o : NeighborsOptions) (text name t : List ℕ) (whole : TopologyParts) → are_neighbors_choices o ≡ true → MeansTopology text whole → {n : List ℕ} {by : Option (List ℕ)} → n ≡ name → by ≡ name_if (nat_eq o.kind 1) o.property.now →
+pub neighbors_answer : (o : NeighborsOptions) (text name t : List ℕ) (whole : TopologyParts) → are_neighbors_options o ≡ true → MeansTopology text whole → {n : List ℕ} {by : Option (List ℕ)} → n ≡ name → by ≡ name_if (nat_eq o.kind 1) o.property.now →
     IsListsText whole n by o.lists t → IsNeighborsAnswer o text name t
 neighbors_answer o text name t whole chosen means {n} {by} e f is = record {
   chosen = chosen;

@@ -22,7 +22,7 @@ use Rattle.numerals.specs.Numeral.{Measure}
 use Rattle.rounded_maps.specs.Sequences.{without_mark}
 use Rattle.topo.specs.Parts.{TopologyParts}
 use Rattle.topo_io.specs.Means.{MeansTopology}
-use Rattle.noshinka.specs.BackOptions.{AreBackRules, IsBackNamesRefusal, IsPropertyRefusal, are_back_choices, properties_of}
+use Rattle.noshinka.specs.BackOptions.{AreBackRules, IsBackNamesRefusal, IsPropertyRefusal, are_back_options, properties_of}
 use Rattle.noshinka.specs.RoundOptions.{IsSize, numeral_of}
 use Rattle.noshinka.specs.Rounding.{IsScaleRefusal}
 use Rattle.noshinka.specs.WayBack.{IsBackAnswer, IsBackRefusal, IsBackText, IsBackTextRefusal, IsBoxRefusal, IsLike, IsLikeRefusal, IsLikeTextRefusal, IsOfBox, IsOwnRefusal, IsOwnText, IsTextOn, fault_at, like_fault, unit_of}
@@ -146,17 +146,17 @@ one_true true b h = inl refl
 one_true false b h = inr h
 
 -- numbers along each axis are at least two, where they are asked for
-two_at_least : (o : WayBackOptions) → are_back_choices o ≡ true → 2 ≤ o.transform → 2 ≤ o.count
+two_at_least : (o : WayBackOptions) → are_back_options o ≡ true → 2 ≤ o.transform → 2 ≤ o.count
 two_at_least o chosen other = go (one_true _ _ (and_parts _ _ (and_parts _ _ chosen).0).1)
   where
     go : (nat_lt o.transform 2 ≡ true) ⊎ ((nat_le 2 o.count && nat_le o.count (2 ^ 40)) ≡ true) → 2 ≤ o.count
     go (inl few) = let less = ltb-true o.transform 2 few in absurd (omega (arith, less))
     go (inr both) = leb-true 2 o.count (and_parts _ _ both).0
 
-pub some_count : (o : WayBackOptions) → are_back_choices o ≡ true → 2 ≤ o.transform → 1 ≤ o.count
+pub some_count : (o : WayBackOptions) → are_back_options o ≡ true → 2 ≤ o.transform → 1 ≤ o.count
 some_count o chosen other = let two = two_at_least o chosen other in omega (arith, two)
 
-pub some_steps : (o : WayBackOptions) → are_back_choices o ≡ true → 2 ≤ o.transform → 1 ≤ o.count - 1
+pub some_steps : (o : WayBackOptions) → are_back_options o ≡ true → 2 ≤ o.transform → 1 ≤ o.count - 1
 some_steps o chosen other = let two = two_at_least o chosen other in omega (arith, two)
 
 pub own_asked : (o : WayBackOptions) (u : Measure) (rules : BackRules) (text t : List ℕ) → o.transform ≡ 0 → IsOwnText u rules text t → IsBackText o u rules text t
@@ -177,7 +177,7 @@ like_not o u text r e h = inr (inl (e, h))
 pub box_not : (o : WayBackOptions) (u : Measure) (text : List ℕ) (r : CallRefusal) → 2 ≤ o.transform → IsBoxRefusal u (o.count - 1) text r → IsBackTextRefusal o u text r
 box_not o u text r e h = inr (inr (e, h))
 
-pub back_choice : (o : WayBackOptions) (text : List ℕ) → are_back_choices o ≡ false → IsBackRefusal o text BadChoice
+pub back_choice : (o : WayBackOptions) (text : List ℕ) → are_back_options o ≡ false → IsBackRefusal o text BadChoice
 back_choice o text h = inl (refl, h)
 
 pub back_unit : (o : WayBackOptions) (text : List ℕ) → ¬ IsSize (numeral_of o.unit.now) → IsBackRefusal o text BadGrid

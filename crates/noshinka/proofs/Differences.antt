@@ -6,7 +6,7 @@ use Rattle.topo.specs.OfMap.{IsOf}
 use Rattle.topo.specs.Parts.{TopologyParts}
 use Rattle.topo_io.specs.Means.{Means, MeansTopology}
 use Rattle.c_calls.specs.Options.{scope_of}
-use Rattle.noshinka.specs.Differing.{HasDiffChoices, IsComparisonText, IsDiffAnswer, IsDiffAsked, IsDiffRefusal, IsMeaningRefusal, IsTopologiesRefusal}
+use Rattle.noshinka.specs.Differing.{HasDiffOptions, IsComparisonText, IsDiffAnswer, IsDiffAsked, IsDiffRefusal, IsMeaningRefusal, IsTopologiesRefusal}
 use Rattle.c_calls.specs.Why.{IsChoiceRefusal, IsScopeRefusal, IsTextRefusal}
 use Rattle.noshinka.specs.declared.differing.DiffOptions.{DiffOptions}
 use Rattle.c_calls.specs.declared.refusal.CallRefusal.{CallRefusal}
@@ -84,6 +84,6 @@ diff_answer old new s t means others {layer} {key} {l} {k} {j} {b} e f g u is = 
 }
 
 -- the same where the options are choices
-pub diff_asked : (a : DiffOptions) (old new : List ℕ) (s t : TopologyParts) → HasDiffChoices a → MeansTopology old s → MeansTopology new t → {layer key : Option (List ℕ)} {j : Bool} → layer ≡ scope_of a.scope a.layer.now →
+pub diff_asked : (a : DiffOptions) (old new : List ℕ) (s t : TopologyParts) → HasDiffOptions a → MeansTopology old s → MeansTopology new t → {layer key : Option (List ℕ)} {j : Bool} → layer ≡ scope_of a.scope a.layer.now →
     key ≡ scope_of a.pairing a.key.now → j ≡ nat_eq a.json 1 → (u : List ℕ) → IsComparisonText s t layer key j u → IsDiffAsked a old new u
 diff_asked a old new s t chosen means others e f g u is = (chosen, diff_answer old new s t means others e f g u is)

@@ -13,7 +13,7 @@ use Rattle.topo_io.specs.Means.{Means, MeansTopology}
 use Rattle.topo_io.specs.TopologyText.{topology_text}
 use Rattle.noshinka.specs.Answers.{IsCanonical, IsNotCanonical}
 use Rattle.c_calls.specs.Ends.{Says}
-use Rattle.noshinka.specs.Quality.{IsQualityAnswer, IsQualityRefusal, are_quality_choices, tests_of}
+use Rattle.noshinka.specs.Quality.{IsQualityAnswer, IsQualityRefusal, are_quality_options, tests_of}
 use Rattle.c_calls.specs.Why.{IsTextRefusal}
 use Rattle.noshinka.specs.declared.map_quality.QualityOptions.{QualityOptions}
 use Rattle.c_calls.specs.declared.refusal.CallRefusal.{CallRefusal}
@@ -39,7 +39,7 @@ canonical_told text t false exact (n, meant, of_map) = record {
     no_true : IsTrue false → ⊥
     no_true e = cc
 
-pub quality_choice : (o : QualityOptions) (text : List ℕ) → are_quality_choices o ≡ false → IsQualityRefusal o text BadChoice
+pub quality_choice : (o : QualityOptions) (text : List ℕ) → are_quality_options o ≡ false → IsQualityRefusal o text BadChoice
 quality_choice o text h = inl (refl, h)
 
 pub quality_text : (o : QualityOptions) (text : List ℕ) (r : CallRefusal) → IsTextRefusal 0 text r → IsQualityRefusal o text r
@@ -48,7 +48,7 @@ quality_text o text r h = inr (inl h)
 pub quality_memory : (o : QualityOptions) (text : List ℕ) → IsQualityRefusal o text OutOfMemory
 quality_memory o text = inr (inr refl)
 
-pub quality_made : (o : QualityOptions) (text t : List ℕ) (w : TopologyParts) (b : Bool) → are_quality_choices o ≡ true → MeansTopology text w → (MeansTopology text w → Says (IsCanonical text) (IsNotCanonical text) b) →
+pub quality_made : (o : QualityOptions) (text t : List ℕ) (w : TopologyParts) (b : Bool) → are_quality_options o ≡ true → MeansTopology text w → (MeansTopology text w → Says (IsCanonical text) (IsNotCanonical text) b) →
     {tests : QualityTests} → tests ≡ tests_of o → IsQualityText tests b w t → IsQualityAnswer o text t
 quality_made o text t w b chosen means told e is = record {
   chosen = chosen;

@@ -15,7 +15,7 @@ use Rattle.topo.specs.OfMap.{seen_parts}
 use Rattle.topo.specs.Parts.{TopologyParts}
 use Rattle.topo_io.specs.TopologyText.{topology_text}
 use Rattle.report_texts.specs.ReportText.{report_if}
-use Rattle.noshinka.specs.RoundOptions.{AreRules, HaveUnits, are_choices}
+use Rattle.noshinka.specs.RoundOptions.{AreRules, HaveUnits, are_options}
 use Rattle.noshinka.specs.Rounding.{IsFilesRefusal, IsMade, IsNamesRefusal, IsRoundAnswer, IsRoundRefusal, IsScaleRefusal, IsSourcesRefusal, features_in, files_as, names_in}
 use Rattle.c_calls.specs.Why.{IsBadName, IsBadNameIf, IsBadSource, of_maps}
 use Rattle.c_calls.specs.declared.refusal.CallRefusal.{CallRefusal}
@@ -97,7 +97,7 @@ sources_memory o rules sources = inr (inl refl)
 pub sources_files : (o : RoundOptions) (rules : BuildRules) (sources : List (List ℕ × List ℕ)) (files : List File) → files ≡ files_as o sources → (r : CallRefusal) → IsFilesRefusal rules files r → IsSourcesRefusal o rules sources r
 sources_files o rules sources files e r h = inr (subst (λ l. IsFilesRefusal rules l r) e h)
 
-pub round_choice : (o : RoundOptions) (sources : List (List ℕ × List ℕ)) → are_choices o ≡ false → IsRoundRefusal o sources BadChoice
+pub round_choice : (o : RoundOptions) (sources : List (List ℕ × List ℕ)) → are_options o ≡ false → IsRoundRefusal o sources BadChoice
 round_choice o sources h = inl (refl, h)
 
 pub round_units : (o : RoundOptions) (sources : List (List ℕ × List ℕ)) → ¬ HaveUnits o.step.now o.unit.now → IsRoundRefusal o sources BadGrid

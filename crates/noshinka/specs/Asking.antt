@@ -41,12 +41,12 @@ abbrev pub layer_of : MeshOptions → Option (List ℕ)
 layer_of o = scope_of o.scope o.layer.now
 
 -- the options have the size of these, and each number stands for a choice
-abbrev pub HasMeshChoices : MeshOptions → Type 0
-HasMeshChoices o = (o.size ≡ 48) × ((o.scope < 2) × (o.edges < 4))
+abbrev pub HasMeshOptions : MeshOptions → Type 0
+HasMeshOptions o = (o.size ≡ 48) × ((o.scope < 2) × (o.edges < 4))
 
 -- the options are choices, the text is accepted, and t is the text of the borders of its topology that the options ask for
 pub record IsMeshText (o : MeshOptions) (text t : List ℕ) : Type 0 where
-  pub chosen : HasMeshChoices o
+  pub chosen : HasMeshOptions o
   pub topology : TopologyParts
   pub means : MeansTopology text topology
   pub borders : IsBordersText topology (layer_of o) (by_of o) (edges_of o.edges) t
@@ -89,12 +89,12 @@ pub record IsListsText (topology : TopologyParts) (name : List ℕ) (by : Option
   pub is : t ≡ lists_text form geometries lists
 
 -- the options have the size of these, and each number stands for a choice
-abbrev pub are_neighbors_choices : NeighborsOptions → Bool
-are_neighbors_choices o = (nat_eq o.size 32 && nat_lt o.kind 2) && nat_lt o.lists 3
+abbrev pub are_neighbors_options : NeighborsOptions → Bool
+are_neighbors_options o = (nat_eq o.size 32 && nat_lt o.kind 2) && nat_lt o.lists 3
 
 -- the options are choices, the text is accepted, and t is the text of the neighbours of each feature in a layer of its topology that they ask for
 pub record IsNeighborsAnswer (o : NeighborsOptions) (text name t : List ℕ) : Type 0 where
-  pub chosen : are_neighbors_choices o ≡ true
+  pub chosen : are_neighbors_options o ≡ true
   pub topology : TopologyParts
   pub means : MeansTopology text topology
   pub lists : IsListsText topology name (name_if (nat_eq o.kind 1) o.property.now) o.lists t
@@ -121,6 +121,6 @@ IsListsRefusal t name form r =
 -- first the options, then the names, then the text
 abbrev pub IsNeighborsRefusal : NeighborsOptions → List ℕ → List ℕ → CallRefusal → Type 0
 IsNeighborsRefusal o text name r =
-    ((r ≡ BadChoice) × (are_neighbors_choices o ≡ false))
+    ((r ≡ BadChoice) × (are_neighbors_options o ≡ false))
     ⊎ (IsBadNameIf (nat_eq o.kind 1) o.property.now r
     ⊎ (IsBadName 0 name r ⊎ (IsTextRefusal 0 text r ⊎ ((t : TopologyParts) × (MeansTopology text t × IsListsRefusal t name o.lists r)))))

@@ -16,8 +16,8 @@ abbrev pub is_counted : WayBackOptions → Bool
 is_counted o = nat_lt o.transform 2 || (nat_le 2 o.count && nat_le o.count (2 ^ 40))
 
 -- the options have the size of these, and each number stands for a choice
-abbrev pub are_back_choices : WayBackOptions → Bool
-are_back_choices o = ((((nat_eq o.size 96 && nat_lt o.numbers 3) && nat_lt o.transform 3) && nat_lt o.rewind 3) && is_counted o) && are_powers o.scales.now
+abbrev pub are_back_options : WayBackOptions → Bool
+are_back_options o = ((((nat_eq o.size 96 && nat_lt o.numbers 3) && nat_lt o.transform 3) && nat_lt o.rewind 3) && is_counted o) && are_powers o.scales.now
 
 -- the properties of which decimal texts become numbers, where they are named
 abbrev pub properties_of : WayBackOptions → List (List ℕ)
@@ -36,7 +36,7 @@ pub record AreBackNames (o : WayBackOptions) (names : BackNames) : Type 0 where
 
 -- the rules that the options stand for
 pub record AreBackRules (o : WayBackOptions) (rules : BackRules) : Type 0 where
-  pub chosen : are_back_choices o ≡ true
+  pub chosen : are_back_options o ≡ true
   pub rewind : rules.rewind ≡ rewind_of o.rewind
   pub numbers : IsNumbers o.numbers (properties_of o) rules.numbers
   pub scales : map scale_pair rules.scales.now ≡ map scale_of o.scales.now

@@ -45,12 +45,12 @@ pub record IsDiffAnswer (old new : List ℕ) (layer key : Option (List ℕ)) (is
   pub is : IsComparisonText olds news layer key is_json t
 
 -- the options have the size of these, and each number stands for a choice
-abbrev pub HasDiffChoices : DiffOptions → Type 0
-HasDiffChoices a = (a.size ≡ 56) × ((a.scope < 2) × ((a.pairing < 2) × (a.json < 2)))
+abbrev pub HasDiffOptions : DiffOptions → Type 0
+HasDiffOptions a = (a.size ≡ 56) × ((a.scope < 2) × ((a.pairing < 2) × (a.json < 2)))
 
 -- the options are choices, and t is the answer that they ask for
 abbrev pub IsDiffAsked : DiffOptions → List ℕ → List ℕ → List ℕ → Type 0
-IsDiffAsked a old new t = HasDiffChoices a × IsDiffAnswer old new (scope_of a.scope a.layer.now) (scope_of a.pairing a.key.now) (nat_eq a.json 1) t
+IsDiffAsked a old new t = HasDiffOptions a × IsDiffAnswer old new (scope_of a.scope a.layer.now) (scope_of a.pairing a.key.now) (nat_eq a.json 1) t
 
 -- what both texts mean: that they are on two grids, or that neither has the layer that is named; or memory was refused
 abbrev pub IsMeaningRefusal : List ℕ → List ℕ → Option (List ℕ) → CallRefusal → Type 0

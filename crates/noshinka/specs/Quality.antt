@@ -12,8 +12,8 @@ use Rattle.c_calls.specs.declared.refusal.CallRefusal.{CallRefusal}
 use Rattle.c_calls.specs.declared.refusal.CallRefusal.TheVariants.{BadChoice, OutOfMemory}
 
 -- the options have the size of these, and each number is within its limits
-abbrev pub are_quality_choices : QualityOptions → Bool
-are_quality_choices o = (nat_eq o.size 24 && nat_lt o.ids 2) && nat_le o.near 100
+abbrev pub are_quality_options : QualityOptions → Bool
+are_quality_options o = (nat_eq o.size 24 && nat_lt o.ids 2) && nat_le o.near 100
 
 -- how many steps vertices are apart at most, where that is asked
 abbrev pub steps_of : ℕ → Option ℕ
@@ -25,7 +25,7 @@ tests_of o = record { ids = nat_eq o.ids 1; near = steps_of o.near; listed = o.l
 
 -- the options are choices, the text is accepted, and t says whether it is canonical, and what the tests find in its topology
 pub record IsQualityAnswer (o : QualityOptions) (text t : List ℕ) : Type 0 where
-  pub chosen : are_quality_choices o ≡ true
+  pub chosen : are_quality_options o ≡ true
   pub topology : TopologyParts
   pub means : MeansTopology text topology
   pub canonical : Bool
@@ -34,4 +34,4 @@ pub record IsQualityAnswer (o : QualityOptions) (text t : List ℕ) : Type 0 whe
 
 -- first the options, then the text; or memory was refused
 abbrev pub IsQualityRefusal : QualityOptions → List ℕ → CallRefusal → Type 0
-IsQualityRefusal o text r = ((r ≡ BadChoice) × (are_quality_choices o ≡ false)) ⊎ (IsTextRefusal 0 text r ⊎ (r ≡ OutOfMemory))
+IsQualityRefusal o text r = ((r ≡ BadChoice) × (are_quality_options o ≡ false)) ⊎ (IsTextRefusal 0 text r ⊎ (r ≡ OutOfMemory))

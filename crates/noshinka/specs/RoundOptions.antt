@@ -32,8 +32,8 @@ abbrev pub are_fixes_chosen : RoundOptions → Bool
 are_fixes_chosen o = ((((nat_lt o.unclosed 2 && nat_lt o.heights 2) && nat_lt o.folded 2) && nat_lt o.collections 2) && nat_lt o.collapsed 3) && nat_lt o.rewind 3
 
 -- the options have the size of these, and each number stands for a choice
-abbrev pub are_choices : RoundOptions → Bool
-are_choices o =
+abbrev pub are_options : RoundOptions → Bool
+are_options o =
     (((((nat_eq o.size 152 && nat_le o.snap 10) && nat_lt o.format 2) && nat_lt o.report 2) && are_sources_chosen o) && are_fixes_chosen o) && are_powers o.scales.now
 
 -- what becomes of a feature without a shape
@@ -100,7 +100,7 @@ scale_pair s = (s.property.now, s.places)
 
 -- the rules that the options stand for
 pub record AreRules (o : RoundOptions) (rules : BuildRules) : Type 0 where
-  pub chosen : are_choices o ≡ true
+  pub chosen : are_options o ≡ true
   pub step : IsSize (numeral_of o.step.now)
   pub unit : IsSize (numeral_of o.unit.now)
   pub units : ℕ

@@ -17,7 +17,7 @@ use Rattle.topo.specs.Parts.{TopologyParts}
 use Rattle.topo_io.specs.TopologyText.{topology_text}
 use Rattle.c_calls.specs.Options.{name_if}
 use Rattle.report_texts.specs.ReportText.{report_if}
-use Rattle.noshinka.specs.RoundOptions.{AreRules, HaveUnits, IsSize, IsUnits, are_choices, numeral_of, scale_of, scale_pair}
+use Rattle.noshinka.specs.RoundOptions.{AreRules, HaveUnits, IsSize, IsUnits, are_options, numeral_of, scale_of, scale_pair}
 use Rattle.c_calls.specs.Why.{HasBadName, HasBadScope, of_maps}
 use Rattle.c_calls.specs.declared.refusal.CallRefusal.{CallRefusal}
 use Rattle.c_calls.specs.declared.refusal.CallRefusal.TheVariants.{BadGrid, BadName, BadChoice, OutOfMemory}
@@ -112,5 +112,5 @@ IsSourcesRefusal o rules sources r =
 -- first the options, then the names, then the texts
 abbrev pub IsRoundRefusal : RoundOptions → List (List ℕ × List ℕ) → CallRefusal → Type 0
 IsRoundRefusal o sources r =
-    ((r ≡ BadChoice) × (are_choices o ≡ false))
+    ((r ≡ BadChoice) × (are_options o ≡ false))
     ⊎ (((r ≡ BadGrid) × (¬ HaveUnits o.step.now o.unit.now)) ⊎ (IsNamesRefusal o r ⊎ ((rules : BuildRules) × (AreRules o rules × IsSourcesRefusal o rules sources r))))

@@ -16,7 +16,7 @@ use Rattle.numerals.specs.Numeral.{Measure, measure_of}
 use Rattle.rounded_maps.specs.Sequences.{without_mark}
 use Rattle.topo.specs.Parts.{TopologyParts}
 use Rattle.topo_io.specs.Means.{MeansTopology}
-use Rattle.noshinka.specs.BackOptions.{AreBackRules, IsBackNamesRefusal, are_back_choices}
+use Rattle.noshinka.specs.BackOptions.{AreBackRules, IsBackNamesRefusal, are_back_options}
 use Rattle.noshinka.specs.RoundOptions.{IsSize, numeral_of}
 use Rattle.c_calls.specs.Why.{IsTextRefusal}
 use Rattle.noshinka.specs.declared.back_options.WayBackOptions.{WayBackOptions}
@@ -103,5 +103,5 @@ IsBackTextRefusal o u text r =
 -- first the options, then the texts
 abbrev pub IsBackRefusal : WayBackOptions → List ℕ → CallRefusal → Type 0
 IsBackRefusal o text r =
-    ((r ≡ BadChoice) × (are_back_choices o ≡ false))
+    ((r ≡ BadChoice) × (are_back_options o ≡ false))
     ⊎ (((r ≡ BadGrid) × (¬ IsSize (numeral_of o.unit.now))) ⊎ (IsBackNamesRefusal o r ⊎ IsBackTextRefusal o (unit_of o) (without_mark text) r))

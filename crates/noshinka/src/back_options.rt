@@ -1,5 +1,5 @@
 //! The options of the way back, as a caller passes them, and the rules that they stand for.
-ghost use Rattle.noshinka.specs.BackOptions.{AreBackNames, AreBackRules, IsBackNamesRefusal, IsNumbers, IsPropertyRefusal, are_back_choices, is_counted, properties_of};
+ghost use Rattle.noshinka.specs.BackOptions.{AreBackNames, AreBackRules, IsBackNamesRefusal, IsNumbers, IsPropertyRefusal, are_back_options, is_counted, properties_of};
 ghost use Rattle.std.specs.Prelude.{◌≡◌, IfErr, IfOk, map, true};
 
 use crate::round_options::{PropertyScale, are_powers, rewind_of};
@@ -37,8 +37,8 @@ fn is_counted(options: &WayBackOptions<'_>) -> bool
 }
 
 /// Whether the options have the size of these, and each number stands for a choice.
-pub(crate) fn are_back_choices(options: &WayBackOptions<'_>) -> bool
-    ensures { result ≡ are_back_choices options.now }
+pub(crate) fn are_back_options(options: &WayBackOptions<'_>) -> bool
+    ensures { result ≡ are_back_options options.now }
 {
     options.size == SIZE
         && options.numbers < 3
@@ -120,7 +120,7 @@ pub(crate) fn back_rules_of<'r>(
     options: &WayBackOptions<'_>,
     names: &'r BackNames<'_>,
 ) -> BackRules<'r>
-    requires chosen { are_back_choices options.now ≡ true }
+    requires chosen { are_back_options options.now ≡ true }
     requires names { AreBackNames options.now names.now }
     ensures { AreBackRules options.now result }
 {

@@ -36,7 +36,7 @@ fn has_key_twice(alloc: Global, geometries: &[Geom]) -> Result<bool, OutOfMemory
     Ok(false)
 }
 
-/// The same, where names of members are asked for.
+/// Whether a key is there twice, where names of members are asked for.
 pub(crate) fn is_key_twice(
     alloc: Global,
     geometries: &[Geom],

@@ -3,7 +3,7 @@
 #![tactic(auto)]
 
 ghost use Rattle.outputs.specs.BuiltText.Maps.{IsTextOfTexts};
-ghost use Rattle.merging.specs.Merge.{lent_texts, IsMergeOf};
+ghost use Rattle.merging.specs.Merge.{borrowed_texts, IsMergeOf};
 ghost use Rattle.noshinka.specs.Answers.{IsCanonical, IsFeatureText, IsInfoAnswer, IsNotCanonical, IsRemoval};
 ghost use Rattle.noshinka.specs.Asking.{IsMeshRefusal, IsMeshText, IsNeighborsAnswer, IsNeighborsRefusal};
 ghost use Rattle.noshinka.specs.Differing.{IsDiffAsked, IsDiffRefusal};
@@ -80,7 +80,7 @@ pub extern "C" fn noshinka_build(
 /// Puts the canonical text of the union of the features of topologies' texts into the room.
 #[unsafe(no_mangle)]
 pub extern "C" fn noshinka_merge(alloc: Global, texts: &[&[u8]], room: &mut [u8]) -> CallOutcome
-    ensures { EndsWith (IsMergeOf (lent_texts texts.now) (range_with_len 0 (length texts.now))) (IsMergeRefusal (lent_texts texts.now)) result room.old room.new }
+    ensures { EndsWith (IsMergeOf (borrowed_texts texts.now) (range_with_len 0 (length texts.now))) (IsMergeRefusal (borrowed_texts texts.now)) result room.old room.new }
 {
     answer(alloc, merge(alloc, texts), room)
 }

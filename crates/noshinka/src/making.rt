@@ -1,6 +1,6 @@
 //! From borrowed texts to the texts of topologies.
 ghost use Rattle.outputs.specs.BuiltText.Maps.{IsTextOfTexts};
-ghost use Rattle.merging.specs.Merge.{lent_texts, IsMergeOf};
+ghost use Rattle.merging.specs.Merge.{borrowed_texts, IsMergeOf};
 ghost use Rattle.noshinka.specs.Answers.{IsRemoval, IsTextWithout};
 ghost use Rattle.c_calls.specs.Borrowed.{grid_of, borrowed_sources};
 ghost use Rattle.c_calls.specs.Why.{IsBuildRefusal, IsMergeRefusal, IsOtherGrid, IsRemoveRefusal};
@@ -41,8 +41,8 @@ pub(crate) fn build(
 /// The canonical text of the union of the features of topologies' texts, none of which is copied.
 #[tactic(auto, using(crate::proofs::Refusals::of_merge_refused))]
 pub(crate) fn merge(alloc: Global, texts: &[&[u8]]) -> Result<Vec<u8>, CallRefusal>
-    ensures merged { IfOk result (λ t. IsMergeOf (lent_texts texts.now) (range_with_len 0 (length texts.now)) t.items) }
-    ensures refused { IfErr result (IsMergeRefusal (lent_texts texts.now)) }
+    ensures merged { IfOk result (λ t. IsMergeOf (borrowed_texts texts.now) (range_with_len 0 (length texts.now)) t.items) }
+    ensures refused { IfErr result (IsMergeRefusal (borrowed_texts texts.now)) }
 {
     match merge_borrowed_topologies(alloc, texts)? {
         Some(topology) => Ok(topo_io::text_of(alloc, &topology)?),

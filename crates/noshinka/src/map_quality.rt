@@ -1,7 +1,7 @@
 //! What tests of the quality of a borrowed topology find.
 ghost use Rattle.c_calls.specs.Ends.{Says};
 ghost use Rattle.noshinka.specs.Answers.{IsCanonical, IsNotCanonical};
-ghost use Rattle.noshinka.specs.Quality.{IsQualityAnswer, IsQualityRefusal, are_quality_choices, steps_of, tests_of};
+ghost use Rattle.noshinka.specs.Quality.{IsQualityAnswer, IsQualityRefusal, are_quality_options, steps_of, tests_of};
 ghost use Rattle.report_texts.specs.QualityText.{IsQualityText};
 ghost use Rattle.std.specs.Prelude.{◌≡◌, IfErr, IfOk};
 ghost use Rattle.topo_io.specs.Means.{MeansTopology};
@@ -31,8 +31,8 @@ const SIZE: usize = size_of::<QualityOptions>();
 const MOST_STEPS: u32 = 100;
 
 /// Whether the options have the size of these, and each number is within its limits.
-fn are_quality_choices(options: &QualityOptions) -> bool
-    ensures { result ≡ are_quality_choices options.now }
+fn are_quality_options(options: &QualityOptions) -> bool
+    ensures { result ≡ are_quality_options options.now }
 {
     options.size == SIZE && options.ids < 2 && options.near <= MOST_STEPS
 }
@@ -89,7 +89,7 @@ pub(crate) fn quality(
     ensures made { IfOk result (λ t. IsQualityAnswer options.now text.now t.items) }
     ensures refused { IfErr result (IsQualityRefusal options.now text.now) }
 {
-    if !are_quality_choices(options) {
+    if !are_quality_options(options) {
         return Err(CallRefusal::BadChoice);
     }
     let topology = topology_of(alloc, 0, text)?;

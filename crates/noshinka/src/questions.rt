@@ -1,6 +1,6 @@
 //! Answers to questions about a borrowed topology.
 ghost use Rattle.noshinka.specs.Answers.{IsCollectionText, IsFeatureText, IsInfoAnswer};
-ghost use Rattle.noshinka.specs.Asking.{AreAskedBorders, AreAskedNeighbors, AreWithIds, IsBordersText, IsIdsRefusal, IsListsRefusal, IsListsText, IsMeshRefusal, IsMeshText, IsNeighborsAnswer, IsNeighborsRefusal, are_neighbors_choices, ids_text};
+ghost use Rattle.noshinka.specs.Asking.{AreAskedBorders, AreAskedNeighbors, AreWithIds, IsBordersText, IsIdsRefusal, IsListsRefusal, IsListsText, IsMeshRefusal, IsMeshText, IsNeighborsAnswer, IsNeighborsRefusal, are_neighbors_options, ids_text};
 ghost use Rattle.c_calls.specs.Why.{IsLayerRefusal, IsQuestionRefusal};
 ghost use Rattle.query.specs.AnswerTexts.{neighbor_ids_text, neighbors_text};
 ghost use Rattle.query.specs.Keyed.{keyed_text};
@@ -181,8 +181,8 @@ pub struct NeighborsOptions<'a> {
 const NEIGHBORS_SIZE: usize = size_of::<NeighborsOptions<'static>>();
 
 /// Whether the options have the size of these, and each number stands for a choice.
-fn are_neighbors_choices(options: &NeighborsOptions<'_>) -> bool
-    ensures { result ≡ are_neighbors_choices options.now }
+fn are_neighbors_options(options: &NeighborsOptions<'_>) -> bool
+    ensures { result ≡ are_neighbors_options options.now }
 {
     options.size == NEIGHBORS_SIZE && options.kind < 2 && options.lists < 3
 }
@@ -264,7 +264,7 @@ fn text_of_neighbors(
 }
 
 /// The neighbours of each feature of a layer of a topology's text.
-#[tactic(auto, using(crate::proofs::Asked::neighbors_choices, crate::proofs::Asked::neighbors_property, crate::proofs::Asked::neighbors_name, crate::proofs::Asked::neighbors_text_refused))]
+#[tactic(auto, using(crate::proofs::Asked::neighbors_options, crate::proofs::Asked::neighbors_property, crate::proofs::Asked::neighbors_name, crate::proofs::Asked::neighbors_text_refused))]
 pub(crate) fn neighbors(
     alloc: Global,
     options: &NeighborsOptions<'_>,
@@ -274,7 +274,7 @@ pub(crate) fn neighbors(
     ensures neighbors { IfOk result (λ t. IsNeighborsAnswer options.now text.now layer.now t.items) }
     ensures refused { IfErr result (IsNeighborsRefusal options.now text.now layer.now) }
 {
-    if !are_neighbors_choices(options) {
+    if !are_neighbors_options(options) {
         return Err(CallRefusal::BadChoice);
     }
     let by = name_if(options.kind == 1, options.property)?;

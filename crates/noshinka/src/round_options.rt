@@ -1,5 +1,5 @@
 //! The options of a rounding, as a caller passes them.
-ghost use Rattle.noshinka.specs.RoundOptions.{are_choices, are_fixes_chosen, are_powers, are_sources_chosen, collapsed_of, fixing_of, reals_of, rewind_of};
+ghost use Rattle.noshinka.specs.RoundOptions.{are_options, are_fixes_chosen, are_powers, are_sources_chosen, collapsed_of, fixing_of, reals_of, rewind_of};
 ghost use Rattle.std.specs.Prelude.{◌≡◌, nat_le};
 
 use attributes::Reals;
@@ -93,8 +93,8 @@ fn are_fixes_chosen(options: &RoundOptions<'_>) -> bool
 }
 
 /// Whether the options have the size of these, and each number stands for a choice.
-pub(crate) fn are_choices(options: &RoundOptions<'_>) -> bool
-    ensures { result ≡ are_choices options.now }
+pub(crate) fn are_options(options: &RoundOptions<'_>) -> bool
+    ensures { result ≡ are_options options.now }
 {
     options.size == SIZE
         && options.snap <= MOST_STEPS

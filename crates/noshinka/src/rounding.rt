@@ -9,7 +9,7 @@ ghost use Rattle.std.specs.Prelude.{◌≡◌, ◌++◌, IfErr, IfOk, false, map
 ghost use Rattle.topo.specs.OfMap.{seen_parts};
 ghost use Rattle.topo_io.specs.TopologyText.{topology_text};
 
-use crate::round_options::{RoundOptions, are_choices};
+use crate::round_options::{RoundOptions, are_options};
 use crate::rules::{names_of, rules_of, units_of};
 use c_calls::borrowed::{SourceText, borrow_sources};
 use c_calls::refusal::CallRefusal;
@@ -180,7 +180,7 @@ pub(crate) fn round(
     ensures made { IfOk result (λ t. IsRoundAnswer options.now (borrowed_sources sources.now) t.items) }
     ensures refused { IfErr result (IsRoundRefusal options.now (borrowed_sources sources.now)) }
 {
-    if !are_choices(options) {
+    if !are_options(options) {
         return Err(CallRefusal::BadChoice);
     }
     let Some(units) = units_of(options.step, options.unit) else {

@@ -1,5 +1,5 @@
 //! The rules that the options of a rounding stand for.
-ghost use Rattle.noshinka.specs.RoundOptions.{AreRules, HaveUnits, IsUnits, are_choices, decimal_grid, greatest_of, numeral_of, scale_of, scale_pair};
+ghost use Rattle.noshinka.specs.RoundOptions.{AreRules, HaveUnits, IsUnits, are_options, decimal_grid, greatest_of, numeral_of, scale_of, scale_pair};
 ghost use Rattle.noshinka.specs.Rounding.{AreNames, AreUnits, IsNamesRefusal, IsScaleRefusal};
 ghost use Rattle.c_calls.specs.Why.{IsBadName};
 ghost use Rattle.numerals.specs.Numeral.{measure_of};
@@ -132,7 +132,7 @@ pub(crate) fn rules_of<'r>(
     units: &Units,
     names: &'r RuleNames<'_>,
 ) -> BuildRules<'r>
-    requires chosen { are_choices options.now ≡ true }
+    requires chosen { are_options options.now ≡ true }
     requires units { AreUnits options.now.step.now options.now.unit.now units.now }
     requires names { AreNames options.now names.now }
     ensures { AreRules options.now result }

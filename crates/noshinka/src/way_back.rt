@@ -2,7 +2,7 @@
 ghost use Rattle.decimals.specs.Topology.TransformFaults.{IsTransformOf, text_numerals};
 ghost use Rattle.faults.specs.Fault.{IsWant, pair_of};
 ghost use Rattle.faults.specs.Path.{name as name_turn};
-ghost use Rattle.noshinka.specs.BackOptions.{are_back_choices};
+ghost use Rattle.noshinka.specs.BackOptions.{are_back_options};
 ghost use Rattle.noshinka.specs.WayBack.{IsBackAnswer, IsBackRefusal, IsBackText, IsBackTextRefusal, IsBoxRefusal, IsLike, IsLikeRefusal, IsLikeTextRefusal, IsOfBox, IsOwnRefusal, IsOwnText, IsTextOn, fault_at, like_fault};
 ghost use Rattle.noshinka.specs.RoundOptions.{IsSize, numeral_of};
 ghost use Rattle.c_calls.specs.Why.{IsTextRefusal};
@@ -11,7 +11,7 @@ ghost use Rattle.rounded_maps.specs.Sequences.{without_mark};
 ghost use Rattle.std.specs.Prelude.{◌≡◌, ◌≤◌, [], ◌∷◌, IfErr, IfNone, IfOk, IfSome, true};
 ghost use Rattle.topo_io.specs.Means.{MeansTopology};
 
-use crate::back_options::{WayBackOptions, are_back_choices, back_names_of, back_rules_of};
+use crate::back_options::{WayBackOptions, are_back_options, back_names_of, back_rules_of};
 use crate::rules::numeral_of;
 use crate::topologies::topology_of;
 use c_calls::refusal::CallRefusal;
@@ -146,7 +146,7 @@ fn back_text(
     rules: &BackRules<'_>,
     text: &[u8],
 ) -> Result<Vec<u8>, CallRefusal>
-    requires { are_back_choices options.now ≡ true }
+    requires { are_back_options options.now ≡ true }
     ensures made { IfOk result (λ t. IsBackText options.now unit.now rules.now (without_mark text.now) t.items) }
     ensures refused { IfErr result (IsBackTextRefusal options.now unit.now (without_mark text.now)) }
 {
@@ -177,7 +177,7 @@ pub(crate) fn back(
     ensures made { IfOk result (λ t. IsBackAnswer options.now text.now t.items) }
     ensures refused { IfErr result (IsBackRefusal options.now text.now) }
 {
-    if !are_back_choices(options) {
+    if !are_back_options(options) {
         return Err(CallRefusal::BadChoice);
     }
     let Some(unit) = unit_of(options.unit) else {

@@ -31,7 +31,7 @@ fn in_word(value: u64, digits: &[u8]) -> (u64, &[u8])
     (number, left)
 }
 
-// The same for a number that may be too great for a machine word. Then all digits are left.
+// The number that digits write behind a value. Where a machine word may be too small for it, all digits are left.
 fn in_words(value: u128, digits: &[u8]) -> (u128, &[u8])
     requires value { value ≤ CAP }
     requires digits { AllDigits 10 digits.now }
@@ -59,7 +59,7 @@ fn capped_behind(value: u128, digits: &[u8]) -> u128
     capped
 }
 
-// The same, with as many digits as a machine word holds read first.
+// `capped_behind`, with as many digits as a machine word holds read first.
 fn capped_number(value: u128, digits: &[u8]) -> u128
     requires value { value ≤ CAP }
     requires digits { AllDigits 10 digits.now }
@@ -81,7 +81,7 @@ pub(crate) fn with_zeros(value: u128, zeros: u128) -> u128
     }
 }
 
-// The same by a power of ten.
+// `with_zeros` by a power of ten.
 fn with_many_zeros(value: u128, zeros: u128) -> u128
     requires { value ≤ CAP }
     ensures { result ≡ min (value * 10 ^ zeros) CAP }

@@ -47,7 +47,7 @@ fn all_ten_thousandths(numeral: &Numeral<'_>, step: &DecimalStep) -> (u64, bool)
     )
 }
 
-// The same for a text with no sign. None where it is no numeral.
+// A text with no sign in ten-thousandths of a step, as above. None where it is no numeral.
 fn ten_thousandths(unsigned: &[u8], step: &DecimalStep) -> Option<(u64, bool)>
     ensures limits { IsSome result → IsMeasure step.now }
     ensures exact { IsSome result ↔ IsUnsigned unsigned.now }

@@ -116,7 +116,7 @@ impl Short {
         }
     }
 
-    // The same where machine words hold it.
+    // `ten_thousandths` where machine words hold it.
     fn few_ten_thousandths(&self, step: &DecimalStep) -> Option<(u64, bool)>
         ensures limits { IsSome result → IsMeasure step.now }
         ensures given { IfSome result (λ r. AreTenThousandths (self.now.digits * 10 ^ step.now.places) (step.now.size * 10 ^ self.now.places) r.0 r.1) }

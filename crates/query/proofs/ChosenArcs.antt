@@ -17,8 +17,8 @@ use Rattle.chains.proofs.Among.{among_has, has_among}
 use Rattle.chains.proofs.ArcSegments.{segments_on}
 use Rattle.chains.proofs.Siding.{on_arc, sides_beside}
 use Rattle.chains.proofs.TablesAsMap.{union_sound}
-use Rattle.split_heal.specs.Healing.{IsLeftBy, IsRejoinedOf}
-use Rattle.split_heal.specs.HealedParts.{RejoinedParts}
+use Rattle.split_heal.specs.Healing.{IsLeftBy, IsHealedOf}
+use Rattle.split_heal.specs.HealedParts.{HealedParts}
 use Rattle.theory.proofs.ArcNumbers.{taken_of, uses_along}
 use Rattle.theory.proofs.ArcsAsMap.{arcs_same, three_map}
 use Rattle.theory.proofs.Chains.{IsChain-same}
@@ -322,14 +322,14 @@ module _ (m : Geometry Pos) (sound : IsSound m) (t : Arcs) (table : IsTableOf m 
     }
 
     -- what they are joined to are the lines over their segments
-    pub joined_lines : (r : RejoinedParts) → ((f h : Geometry Pos) → IsLeftBy f h t marks stops → IsRejoinedOf f h t r) → AreLinesOver segs r.arcs
+    pub joined_lines : (r : HealedParts) → ((f h : Geometry Pos) → IsLeftBy f h t marks stops → IsHealedOf f h t r) → AreLinesOver segs r.arcs
     joined_lines r joins = lines_are r.arcs (joins g both left_by).table
 
 -- in the form of the code
 pub lines_over : (t : TopologyParts) (some : IsOfSomeMap t) (arcs : Arcs) → arcs ≡ t.arcs → (ks : List ℕ) (stops ending : List Pos) →
     ((g : Geometry Pos) → IsSound g → IsTableOf g arcs → AreHalts arcs.arcs ks stops) → ending ≡ stops →
     (n : ℕ) (made marks : List Bool) → n ≡ length arcs.arcs → made ≡ with_marks (replicate n false) ks → marks ≡ made →
-    (r : RejoinedParts) → ((f h : Geometry Pos) → IsLeftBy f h arcs marks ending → IsRejoinedOf f h arcs r) → (lines : Arcs) → lines ≡ r.arcs →
+    (r : HealedParts) → ((f h : Geometry Pos) → IsLeftBy f h arcs marks ending → IsHealedOf f h arcs r) → (lines : Arcs) → lines ≡ r.arcs →
     (segs : List Segment) × HasArcs t.arcs.arcs ks segs × AreLinesOver segs lines
 lines_over t some arcs at ks stops ending halting e n made marks count marked f r joins lines is =
     let table : IsTableOf (geometry_of some.0) arcs = subst (IsTableOf (geometry_of some.0)) (sym at) some.1.table in

@@ -12,7 +12,7 @@ use Rattle.theory.specs.Lists.{Has}
 use Rattle.theory.specs.Users.{UsesArc}
 use Rattle.theory.proofs.Lists.{Has-append, Has-append_left, Has-append_right}
 use Rattle.query.specs.ByProperty.{AreClasses, AreOneValue, class_in, class_uses, known_then, value_text, values_of}
-use Rattle.query.specs.EachOnce.{lent}
+use Rattle.query.specs.EachOnce.{borrowed}
 use Rattle.query.specs.Uses.{body_uses, use_at}
 use Rattle.query.specs.declared.uses.Use.{Use}
 use Rattle.query.proofs.Meshing.{get_map}
@@ -143,10 +143,10 @@ has_classes (d ∷ cs) (b ∷ gs) (suc n) k c g e f h =
 
 -- the value at an index
 pub value_here : (name : List ℕ) (gs : List (Bor Geom)) (n : ℕ) (g : Bor Geom) → n < length gs → g ≡ get_or gs n g →
-    slice_get (values_of name (lent gs)) n ≡ Some (value_text name g.now.props)
-value_here name gs n g m f = get_map (λ h. value_text name h.props) (lent gs) n g.now (get_map (λ h. h.now) gs n g (item_at gs n g m f))
+    slice_get (values_of name (borrowed gs)) n ≡ Some (value_text name g.now.props)
+value_here name gs n g m f = get_map (λ h. value_text name h.props) (borrowed gs) n g.now (get_map (λ h. h.now) gs n g (item_at gs n g m f))
 
-pub many_values : (name : List ℕ) (gs : List (Bor Geom)) → length gs ≡ length (values_of name (lent gs))
+pub many_values : (name : List ℕ) (gs : List (Bor Geom)) → length gs ≡ length (values_of name (borrowed gs))
 many_values name [] = refl
 many_values name (g ∷ gs) = ap suc (many_values name gs)
 

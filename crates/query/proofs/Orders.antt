@@ -15,7 +15,7 @@ use Rattle.topo.specs.contracts.geom.GeomOrd.TheImpl.Laws.{total-law, matches_eq
 use Rattle.topo.specs.contracts.geom.GeomPartialEq.TheImpl as geometry_eq
 use Rattle.topo.specs.declared.geom.Geom.{Geom}
 use Rattle.topo.proofs.SameGeometries.{geometry_same}
-use Rattle.query.specs.EachOnce.{AreEachOnce, lent}
+use Rattle.query.specs.EachOnce.{AreEachOnce, borrowed}
 use Rattle.query.specs.declared.uses.Use.{Use}
 use Rattle.query.specs.declared.arc_users.ArcUser.{ArcUser}
 use Rattle.query.specs.contracts.uses.UsePartialEq.TheImpl as use_eq
@@ -63,11 +63,11 @@ geometry_order_same g h e = geometry_same g h (matches_eq-law g h ∙ ap is_eq e
 
 -- what sorting by the derived order leaves of geometries, once of equal neighbours one is kept
 pub each_once : (xs ys zs : List (Bor Geom)) → IsPermutation xs ys → IsSorted (λ g h. geometry_order.cmp-value.it g.now h.now) ys →
-    IsFiltered (DiffersFromLast (λ g h. geometry_eq.eq-value.it g.now h.now)) [] ys zs → AreEachOnce (lent xs) (lent zs)
+    IsFiltered (DiffersFromLast (λ g h. geometry_eq.eq-value.it g.now h.now)) [] ys zs → AreEachOnce (borrowed xs) (borrowed zs)
 each_once xs ys zs p s f =
     let d = sorted_once_by (λ (g : Bor Geom). g.now) geometry_order.cmp-value.it total-law geometry_order_same geometry_eq.eq-value.it matches_eq-law xs ys zs p s f in
     record {
-      once = λ i j g a b. get_once geometry_order.cmp-value.it (less_self geometry_order.cmp-value.it total-law geometry_order_same) (lent zs) i j g d.ascends a b;
+      once = λ i j g a b. get_once geometry_order.cmp-value.it (less_self geometry_order.cmp-value.it total-law geometry_order_same) (borrowed zs) i j g d.ascends a b;
       there = d.there;
       only = d.only;
     }

@@ -5,8 +5,8 @@ use Rattle.theory.specs.Lists.{Has}
 use Rattle.topo.specs.declared.geom.Geom.{Geom}
 
 -- the geometries behind references
-abbrev pub lent : List (Bor Geom) → List Geom
-lent gs = map_list (λ g. g.now) gs
+abbrev pub borrowed : List (Bor Geom) → List Geom
+borrowed gs = map_list (λ g. g.now) gs
 
 -- the same geometries, none at two indexes
 pub record AreEachOnce (all kept : List Geom) : Type 0 where

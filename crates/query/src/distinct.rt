@@ -1,5 +1,5 @@
 //! The geometries that a question is about, each once: equal ones are of one feature.
-ghost use Rattle.query.specs.EachOnce.{lent, AreEachOnce};
+ghost use Rattle.query.specs.EachOnce.{borrowed, AreEachOnce};
 ghost use Rattle.std.specs.Prelude.{◌≡◌, ◌++◌, IfOk, OnOk};
 ghost use Rattle.theory.specs.Lists.{gathered};
 
@@ -11,7 +11,7 @@ pub(crate) fn add_geometries<'a>(
     found: &mut Vec<&'a Geom>,
     geometries: &'a [Geom],
 ) -> Result<(), AllocError>
-    ensures { OnOk result (lent found.new.items ≡ lent found.old.items ++ geometries.now) }
+    ensures { OnOk result (borrowed found.new.items ≡ borrowed found.old.items ++ geometries.now) }
 {
     for geometry in geometries {
         found.push(geometry)?;
@@ -21,7 +21,7 @@ pub(crate) fn add_geometries<'a>(
 
 /// The geometries of the layers, one layer after the other.
 fn geometries_in<'a>(alloc: Global, layers: &'a [Layer]) -> Result<Vec<&'a Geom>, AllocError>
-    ensures { IfOk result (λ v. lent v.items ≡ gathered (λ l. l.geometries) layers.now) }
+    ensures { IfOk result (λ v. borrowed v.items ≡ gathered (λ l. l.geometries) layers.now) }
 {
     let mut found = Vec::new(alloc);
     for layer in layers {
@@ -32,7 +32,7 @@ fn geometries_in<'a>(alloc: Global, layers: &'a [Layer]) -> Result<Vec<&'a Geom>
 
 /// Sorts geometries, so that equal ones are together, and keeps each once.
 fn keep_each_once(geometries: &mut Vec<&Geom>)
-    ensures { AreEachOnce (lent geometries.old.items) (lent geometries.new.items) }
+    ensures { AreEachOnce (borrowed geometries.old.items) (borrowed geometries.new.items) }
 {
     geometries.sort_unstable();
     geometries.dedup();
@@ -44,7 +44,7 @@ pub(crate) fn distinct_geometries<'a>(
     alloc: Global,
     layers: &'a [Layer],
 ) -> Result<Vec<&'a Geom>, AllocError>
-    ensures { IfOk result (λ v. AreEachOnce (gathered (λ l. l.geometries) layers.now) (lent v.items)) }
+    ensures { IfOk result (λ v. AreEachOnce (gathered (λ l. l.geometries) layers.now) (borrowed v.items)) }
 {
     let mut geometries = geometries_in(alloc, layers)?;
     keep_each_once(&mut geometries);

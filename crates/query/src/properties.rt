@@ -1,6 +1,6 @@
 //! Values of a property, and which geometries have one value.
 ghost use Rattle.query.specs.ByProperty.{AreClasses, class_in, known_then, value_text as text_of_value, values_of};
-ghost use Rattle.query.specs.EachOnce.{lent};
+ghost use Rattle.query.specs.EachOnce.{borrowed};
 ghost use Rattle.std.specs.BTreeMap.{get_by_text};
 ghost use Rattle.std.specs.Prelude.{◌≡◌, IfOk, List, OnOk, option_map, string_bytes, ℕ};
 
@@ -48,7 +48,7 @@ pub(crate) fn classes_of(
     geometries: &[&Geom],
     property: &str,
 ) -> Result<Vec<usize>, AllocError>
-    ensures { IfOk result (λ v. AreClasses (values_of property.now (lent geometries.now)) v.items) }
+    ensures { IfOk result (λ v. AreClasses (values_of property.now (borrowed geometries.now)) v.items) }
 {
     let mut known = BTreeMap::new(alloc);
     let mut classes = Vec::new(alloc);

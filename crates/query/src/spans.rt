@@ -59,7 +59,7 @@ fn no_spans(alloc: Global, arcs: usize) -> Result<Vec<Option<Span>>, AllocError>
     Ok(spans)
 }
 
-/// The same, by these uses.
+/// The span of each arc, by these uses.
 pub(crate) fn spans_by(
     alloc: Global,
     arcs: usize,

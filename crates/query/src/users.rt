@@ -1,6 +1,6 @@
 //! Which arcs geometries use, and which of them edges ask for.
 ghost use Rattle.query.specs.ByProperty.{class_uses};
-ghost use Rattle.query.specs.EachOnce.{lent};
+ghost use Rattle.query.specs.EachOnce.{borrowed};
 ghost use Rattle.query.specs.Spans.{asks_for, number_if, numbers_from};
 ghost use Rattle.query.specs.Uses.{geometries_uses};
 ghost use Rattle.std.specs.Prelude.{◌≡◌, ◌++◌, IfOk, OnOk, length};
@@ -13,7 +13,7 @@ use topo::Geom;
 
 /// The uses of arcs by these geometries, index by index.
 pub(crate) fn uses_by(alloc: Global, geometries: &[&Geom]) -> Result<Vec<Use>, AllocError>
-    ensures { IfOk result (λ v. v.items ≡ geometries_uses (lent geometries.now)) }
+    ensures { IfOk result (λ v. v.items ≡ geometries_uses (borrowed geometries.now)) }
 {
     let mut uses = Vec::new(alloc);
     for index in 0..geometries.len() {
@@ -29,7 +29,7 @@ pub(crate) fn uses_by_class(
     classes: &[usize],
 ) -> Result<Vec<Use>, AllocError>
     requires { length classes.now ≡ length geometries.now }
-    ensures { IfOk result (λ v. v.items ≡ class_uses classes.now (lent geometries.now)) }
+    ensures { IfOk result (λ v. v.items ≡ class_uses classes.now (borrowed geometries.now)) }
 {
     let mut uses = Vec::new(alloc);
     for index in 0..geometries.len() {

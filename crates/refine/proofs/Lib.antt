@@ -2,8 +2,8 @@ pub mod MeantTexts
 pub mod JoinedParts
 pub mod ManyParts
 pub mod WrittenTexts
-mod LeftTold
-mod DifferenceTold
+mod WhatIsLeft
+mod WhatDiffers
 mod JoinedTexts
 pub mod EditsDone
 pub mod EditsUndone

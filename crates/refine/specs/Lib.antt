@@ -3,7 +3,7 @@ pub mod EditLaws
 pub mod TextLaws
 pub mod OnGrid
 pub mod ManyLayers
-pub mod Lent
+pub mod Borrowed
 pub mod LeftLists
 pub mod Removals
 pub mod Difference

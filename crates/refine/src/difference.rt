@@ -5,7 +5,7 @@ ghost use Rattle.topo.specs.GeometryOrder.Noded.{AreNoded};
 ghost use Rattle.topo.specs.GeometryOrder.Noted.{IsNotedFor};
 ghost use Rattle.topo.specs.LayerLaws.Leaving.{from_on, is_first, layer_less, others};
 ghost use Rattle.refine.specs.Difference.{HaveRecut, LayersHaveRecut, by_lists, cut_again, geometries_in, layer_without, layers_without};
-ghost use Rattle.refine.specs.Lent.{all_lent, lent};
+ghost use Rattle.refine.specs.Borrowed.{all_borrowed, borrowed};
 ghost use Rattle.shapes.specs.Maps.{Layers};
 ghost use Rattle.std.specs.Prelude.{◌≡◌, IfOk, OnOk, map as map_list};
 ghost use Rattle.topo.specs.Features.{HasFeature};
@@ -50,7 +50,7 @@ fn is_first_left(
     }
 }
 
-/// The same of a geometry by the arcs of the left side.
+/// Whether a geometry by the arcs of the left side is among those of the right side.
 fn is_among(
     alloc: Global,
     both: &Recut,
@@ -123,7 +123,7 @@ fn layer_left<'a>(
     requires there { HaveRecut both.now layer.now.geometries }
     requires removed_there { HaveFeatures both.now.arcs.arcs (geometries_in removed) }
     ensures noted { IsNotedFor both.now.arcs.arcs by.new }
-    ensures left { IfOk result (λ l. lent l ≡ layer_without both.now layer.now (geometries_in removed)) }
+    ensures left { IfOk result (λ l. borrowed l ≡ layer_without both.now layer.now (geometries_in removed)) }
 {
     let others = geometries_of(alloc, removed);
     let geometries = geometries_left(alloc, both, by, layer.geometries(), others)?;
@@ -143,7 +143,7 @@ fn layers_left<'a>(
     requires noded { AreNoded both.now.arcs.arcs }
     requires there { LayersHaveRecut both.now layers.now }
     requires removed_there { LayersHaveFeatures both.now.arcs.arcs removed.items }
-    ensures { IfOk result (λ v. all_lent v.items ≡ layers_without both.now layers.now removed.items) }
+    ensures { IfOk result (λ v. all_borrowed v.items ≡ layers_without both.now layers.now removed.items) }
 {
     let mut left = Vec::with_capacity(alloc, layers.len())?;
     let mut passed = Vec::new(alloc);
@@ -165,8 +165,8 @@ fn layers_less<'a>(
     removed: Topology,
 ) -> Result<Vec<LayerLeft<'a>>, OutOfMemory>
     requires { arcs ≡ topology.now.arcs }
-    ensures left { IfOk result (λ v. (m n : Layers) → IsOf m topology.now → IsOf n removed → all_lent v.items ≡ map_list (layer_less topology.now.arcs.arcs n) topology.now.layers) }
-    ensures some { IfOk result (λ v. (r : Layers) × (all_lent v.items ≡ map_list (layer_less topology.now.arcs.arcs r) topology.now.layers)) }
+    ensures left { IfOk result (λ v. (m n : Layers) → IsOf m topology.now → IsOf n removed → all_borrowed v.items ≡ map_list (layer_less topology.now.arcs.arcs n) topology.now.layers) }
+    ensures some { IfOk result (λ v. (r : Layers) × (all_borrowed v.items ≡ map_list (layer_less topology.now.arcs.arcs r) topology.now.layers)) }
 {
     let (removed_arcs, layers) = removed.into_parts();
     let both = recut_owned(alloc, arcs, removed_arcs)?;
@@ -181,8 +181,8 @@ pub(crate) fn layers_without<'a>(
     topology: &'a Topology,
     removed: &Topology,
 ) -> Result<Vec<LayerLeft<'a>>, OutOfMemory>
-    ensures left { IfOk result (λ v. (m n : Layers) → IsOf m topology.now → IsOf n removed.now → all_lent v.items ≡ map_list (layer_less topology.now.arcs.arcs n) topology.now.layers) }
-    ensures some { IfOk result (λ v. (r : Layers) × (all_lent v.items ≡ map_list (layer_less topology.now.arcs.arcs r) topology.now.layers)) }
+    ensures left { IfOk result (λ v. (m n : Layers) → IsOf m topology.now → IsOf n removed.now → all_borrowed v.items ≡ map_list (layer_less topology.now.arcs.arcs n) topology.now.layers) }
+    ensures some { IfOk result (λ v. (r : Layers) × (all_borrowed v.items ≡ map_list (layer_less topology.now.arcs.arcs r) topology.now.layers)) }
 {
     let removed = removed.share(alloc)?;
     layers_less(alloc, topology, topology.arcs().share(alloc)?, removed)

@@ -1,5 +1,5 @@
 //! Merging texts of topologies.
-ghost use Rattle.merging.specs.Merge.{all_indexes, bytes_of, lent_texts, IsMergeFault, IsMergeOf, IsUnionOf, MeansUnion};
+ghost use Rattle.merging.specs.Merge.{all_indexes, bytes_of, borrowed_texts, IsMergeFault, IsMergeOf, IsUnionOf, MeansUnion};
 ghost use Rattle.merging.specs.declared.fault.MergeFault.TheVariants.{BadPlan};
 ghost use Rattle.merging.specs.Leaves.{leaves, first_outside};
 ghost use Rattle.refine.specs.Merged.{IsTopologyOfUnion};
@@ -67,9 +67,9 @@ pub fn merge_borrowed_topologies(
     alloc: Global,
     texts: &[&[u8]],
 ) -> Result<Option<Topology>, MergeFault>
-    ensures fault { IfErr result (IsMergeFault (lent_texts texts.now) (all_indexes texts.now)) }
-    ensures merged { IfOk result (λ o. MatchOption o (length texts.now ≡ 0) (IsTopologyOfUnion (lent_texts texts.now) (all_indexes texts.now))) }
-    ensures text { IfOk result (λ o. IfSome o (λ t. IsMergeOf (lent_texts texts.now) (all_indexes texts.now) (topology_text (seen_parts t)))) }
+    ensures fault { IfErr result (IsMergeFault (borrowed_texts texts.now) (all_indexes texts.now)) }
+    ensures merged { IfOk result (λ o. MatchOption o (length texts.now ≡ 0) (IsTopologyOfUnion (borrowed_texts texts.now) (all_indexes texts.now))) }
+    ensures text { IfOk result (λ o. IfSome o (λ t. IsMergeOf (borrowed_texts texts.now) (all_indexes texts.now) (topology_text (seen_parts t)))) }
 {
     match merge_all_by::<Cut, AtOnce, &[u8]>(alloc, texts.to_vec(alloc)?) {
         Ok(shard) => Ok(topology_of_union(shard)),

@@ -2,13 +2,13 @@
 //! where no junction is left. A geometry is stitched only where a removed feature has its id and properties.
 ghost use Rattle.topo.specs.LayerLaws.Leaving.{from_on, is_first, layer_less, order_to, others};
 ghost use Rattle.topo.specs.LayerLaws.LeftLists.{line_ends as ends_of_line};
-ghost use Rattle.topo.specs.LayerLaws.Less as rejoined;
+ghost use Rattle.topo.specs.LayerLaws.Less as healed_list;
 ghost use Rattle.topo.specs.LayerLaws.Less.{less};
 ghost use Rattle.arcs.specs.ArcMarks.{marks_set};
 ghost use Rattle.lines.specs.Turned.{position_cmp};
 ghost use Rattle.merging.specs.declared.fault.JoinFault.TheVariants.{OtherGrid};
 ghost use Rattle.refine.specs.LeftLists.{body_ends, layer_ends, layers_ends};
-ghost use Rattle.refine.specs.Lent.{all_lent, lent};
+ghost use Rattle.refine.specs.Borrowed.{all_borrowed, borrowed};
 ghost use Rattle.refine.specs.Removals.{IsWithoutBy};
 ghost use Rattle.split_heal.specs.Starts.{starts_by};
 ghost use Rattle.shapes.specs.Maps.{Layers, features_at, set_of};
@@ -198,7 +198,7 @@ fn layer_left<'a>(
     removed: &FeatureMap,
 ) -> Result<LayerLeft<'a>, OutOfMemory>
     requires there { HaveFeatures topology.now.arcs.arcs layer.now.geometries }
-    ensures { IfOk result (λ l. lent l ≡ layer_less topology.now.arcs.arcs removed.now layer.now) }
+    ensures { IfOk result (λ l. borrowed l ≡ layer_less topology.now.arcs.arcs removed.now layer.now) }
 {
     let features = features_under(alloc, removed, layer.name().text())?;
     let geometries = geometries_left(alloc, topology, layer.geometries(), features)?;
@@ -214,7 +214,7 @@ fn layers_left<'a>(
     topology: &'a Topology,
     removed: &FeatureMap,
 ) -> Result<Vec<LayerLeft<'a>>, OutOfMemory>
-    ensures { IfOk result (λ v. all_lent v.items ≡ map_list (layer_less topology.now.arcs.arcs removed.now) topology.now.layers) }
+    ensures { IfOk result (λ v. all_borrowed v.items ≡ map_list (layer_less topology.now.arcs.arcs removed.now) topology.now.layers) }
 {
     let mut layers = Vec::with_capacity(alloc, topology.layers().len())?;
     for layer in topology.layers() {
@@ -224,7 +224,7 @@ fn layers_left<'a>(
 }
 
 fn mark_layer(kept: &mut ArcMarks, layer: &LayerLeft)
-    ensures { kept.new ≡ marks_set true kept.old (layer_refs (lent layer.now)) }
+    ensures { kept.new ≡ marks_set true kept.old (layer_refs (borrowed layer.now)) }
 {
     for geometry in &layer.geometries {
         mark_body(kept, &geometry.body);
@@ -232,7 +232,7 @@ fn mark_layer(kept: &mut ArcMarks, layer: &LayerLeft)
 }
 
 fn mark_layers(kept: &mut ArcMarks, layers: &[LayerLeft])
-    ensures { kept.new ≡ marks_set true kept.old (layers_refs (all_lent layers.now)) }
+    ensures { kept.new ≡ marks_set true kept.old (layers_refs (all_borrowed layers.now)) }
 {
     for layer in layers {
         mark_layer(kept, layer);
@@ -241,7 +241,7 @@ fn mark_layers(kept: &mut ArcMarks, layers: &[LayerLeft])
 
 /// A mark for each arc, set where a geometry that stays uses it.
 fn arcs_kept(alloc: Global, arcs: &ArcTable, layers: &[LayerLeft]) -> Result<ArcMarks, OutOfMemory>
-    ensures { IfOk result (λ v. v ≡ marks_set true (replicate (length arcs.now.arcs) false) (layers_refs (all_lent layers.now))) }
+    ensures { IfOk result (λ v. v ≡ marks_set true (replicate (length arcs.now.arcs) false) (layers_refs (all_borrowed layers.now))) }
 {
     let mut kept = ArcMarks::none(alloc, arcs.len())?;
     mark_layers(&mut kept, layers);
@@ -285,7 +285,7 @@ fn add_ends_of_layer(
     topology: &Topology,
     layer: &LayerLeft,
 ) -> Result<(), OutOfMemory>
-    ensures { OnOk result (ends.new.items ≡ ends.old.items ++ layer_ends topology.now.arcs.arcs (lent layer.now)) }
+    ensures { OnOk result (ends.new.items ≡ ends.old.items ++ layer_ends topology.now.arcs.arcs (borrowed layer.now)) }
 {
     for geometry in &layer.geometries {
         add_ends_of_body(ends, topology, &geometry.body)?;
@@ -299,7 +299,7 @@ fn line_ends(
     topology: &Topology,
     layers: &[LayerLeft],
 ) -> Result<Vec<Pos>, OutOfMemory>
-    ensures { IfOk result (λ v. v.items ≡ layers_ends topology.now.arcs.arcs (all_lent layers.now)) }
+    ensures { IfOk result (λ v. v.items ≡ layers_ends topology.now.arcs.arcs (all_borrowed layers.now)) }
 {
     let mut ends = Vec::new(alloc);
     for layer in layers {
@@ -315,9 +315,9 @@ struct JoinedLists<'a> {
 }
 
 impl NewLists for JoinedLists<'_> {
-    ghost line_of = { λ l. joining.rejoined (starts_by l.joined.now.pieces) 0 };
+    ghost line_of = { λ l. joining.healed_list (starts_by l.joined.now.pieces) 0 };
 
-    ghost ring_of = { λ l. joining.ring_rejoined position_cmp l.joined.now.arcs.arcs (starts_by l.joined.now.pieces) };
+    ghost ring_of = { λ l. joining.healed_ring_list position_cmp l.joined.now.arcs.arcs (starts_by l.joined.now.pieces) };
 
     fn line(&self, alloc: Global, used: &[ArcRef]) -> Result<Vec<ArcRef>, OutOfMemory> {
         self.joined.line(alloc, used)
@@ -329,8 +329,8 @@ impl NewLists for JoinedLists<'_> {
 }
 
 /// A layer that stays by the new arcs.
-fn layer_rejoined(alloc: Global, arcs: &HealedArcs, layer: &LayerLeft) -> Result<Layer, OutOfMemory>
-    ensures { IfOk result (λ l. l ≡ rejoined.layer_rejoined arcs.now.arcs.arcs (starts_by arcs.now.pieces) (lent layer.now)) }
+fn layer_over_healed(alloc: Global, arcs: &HealedArcs, layer: &LayerLeft) -> Result<Layer, OutOfMemory>
+    ensures { IfOk result (λ l. l ≡ healed_list.layer_over_healed arcs.now.arcs.arcs (starts_by arcs.now.pieces) (borrowed layer.now)) }
 {
     let name = layer.name.copy(alloc)?;
     let lists = JoinedLists { joined: arcs };
@@ -342,16 +342,16 @@ fn layer_rejoined(alloc: Global, arcs: &HealedArcs, layer: &LayerLeft) -> Result
 }
 
 /// The layers that stay by the new arcs.
-fn layers_rejoined(
+fn layers_over_healed(
     alloc: Global,
     arcs: &HealedArcs,
     layers: &[LayerLeft],
 ) -> Result<Vec<Layer>, OutOfMemory>
-    ensures { IfOk result (λ v. v.items ≡ map_list (rejoined.layer_rejoined arcs.now.arcs.arcs (starts_by arcs.now.pieces)) (all_lent layers.now)) }
+    ensures { IfOk result (λ v. v.items ≡ map_list (healed_list.layer_over_healed arcs.now.arcs.arcs (starts_by arcs.now.pieces)) (all_borrowed layers.now)) }
 {
     let mut made = Vec::with_capacity(alloc, layers.len())?;
     for layer in layers {
-        made.push(layer_rejoined(alloc, arcs, layer)?)?;
+        made.push(layer_over_healed(alloc, arcs, layer)?)?;
     }
     Ok(made)
 }
@@ -362,16 +362,16 @@ fn removal_of(
     topology: &Topology,
     left: &[LayerLeft],
 ) -> Result<Removal, OutOfMemory>
-    requires { (r : Layers) × (all_lent left.now ≡ map_list (layer_less topology.now.arcs.arcs r) topology.now.layers) }
+    requires { (r : Layers) × (all_borrowed left.now ≡ map_list (layer_less topology.now.arcs.arcs r) topology.now.layers) }
     ensures grid { IfOk result (λ x. x.topology.grid ≡ topology.now.grid) }
-    ensures of_map { IfOk result (λ x. (m r : Layers) → all_lent left.now ≡ map_list (layer_less topology.now.arcs.arcs r) topology.now.layers → IsOf m topology.now → IsOf (less m r) x.topology) }
-    ensures pieces { IfOk result (λ x. (m r : Layers) → all_lent left.now ≡ map_list (layer_less topology.now.arcs.arcs r) topology.now.layers → IsOf m topology.now → IsWithoutBy m r topology.now x) }
+    ensures of_map { IfOk result (λ x. (m r : Layers) → all_borrowed left.now ≡ map_list (layer_less topology.now.arcs.arcs r) topology.now.layers → IsOf m topology.now → IsOf (less m r) x.topology) }
+    ensures pieces { IfOk result (λ x. (m r : Layers) → all_borrowed left.now ≡ map_list (layer_less topology.now.arcs.arcs r) topology.now.layers → IsOf m topology.now → IsWithoutBy m r topology.now x) }
     ensures few { IfOk result (λ x. length x.topology.arcs.arcs < 2 ^ 63) }
 {
     let kept = arcs_kept(alloc, topology.arcs(), left)?;
     let ends = line_ends(alloc, topology, left)?;
     let joined = heal(alloc, topology.arcs(), kept.as_slice(), &ends)?;
-    let layers = layers_rejoined(alloc, &joined, left)?;
+    let layers = layers_over_healed(alloc, &joined, left)?;
     let (arcs, pieces) = joined.into_parts();
     let topology = Topology::from_parts_without_bbox(topology.grid(), arcs, layers);
     Ok(Removal { topology, pieces })

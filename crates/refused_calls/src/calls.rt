@@ -8,13 +8,13 @@ use std::alloc::Global;
 /// `calls!(tally.ask(rt, title, lent); "name" => function)`.
 #[macro_export]
 macro_rules! calls {
-    ($tally:ident.$make:ident($rt:expr, $title:expr, $lent:expr); $($name:literal => $call:expr),+ $(,)?) => {
-        $($tally.$make($rt, $title, $lent, $name, $call);)+
+    ($tally:ident.$make:ident($rt:expr, $title:expr, $borrowed:expr); $($name:literal => $call:expr),+ $(,)?) => {
+        $($tally.$make($rt, $title, $borrowed, $name, $call);)+
     };
 }
 
 /// What is lent to calls.
-pub trait Lent {
+pub trait Borrowed {
     /// Whether it is as it was made, as far as that is told without memory.
     fn is_as_before(&self) -> bool;
 
@@ -25,20 +25,20 @@ pub trait Lent {
 }
 
 /// Nothing is lent.
-impl Lent for () {
+impl Borrowed for () {
     fn is_as_before(&self) -> bool {
         true
     }
 }
 
 /// Asks, and asks again after want of memory.
-fn ask_twice<L: Lent, F: Fn(Global, &L) -> Answer>(alloc: Global, lent: &L, ask: &F) -> Outcome
+fn ask_twice<L: Borrowed, F: Fn(Global, &L) -> Answer>(alloc: Global, borrowed: &L, ask: &F) -> Outcome
     requires { F.IsAlwaysCallable ask.now }
 {
-    let first = Outcome::of_first(ask(alloc, lent), lent.is_as_before());
+    let first = Outcome::of_first(ask(alloc, borrowed), borrowed.is_as_before());
     match first {
-        Outcome::Wanting => match lent.is_as_made(alloc) {
-            Answer::Right => Outcome::of_second(ask(alloc, lent)),
+        Outcome::Wanting => match borrowed.is_as_made(alloc) {
+            Answer::Right => Outcome::of_second(ask(alloc, borrowed)),
             other => Outcome::of_first(other, true),
         },
         _ => first,
@@ -47,8 +47,8 @@ fn ask_twice<L: Lent, F: Fn(Global, &L) -> Answer>(alloc: Global, lent: &L, ask:
 
 /// Makes a call that changes a value, and makes it again after want of memory, when the value has to be as
 /// it was before.
-pub fn change<L: Lent, V: Drop, F: Fn(&mut V) -> Answer, B: Fn(&V) -> bool>(
-    lent: &L,
+pub fn change<L: Borrowed, V: Drop, F: Fn(&mut V) -> Answer, B: Fn(&V) -> bool>(
+    borrowed: &L,
     made: Option<V>,
     ask: F,
     is_as_before: B,
@@ -59,7 +59,7 @@ pub fn change<L: Lent, V: Drop, F: Fn(&mut V) -> Answer, B: Fn(&V) -> bool>(
     let Some(mut value) = made else {
         return Outcome::Unprepared;
     };
-    let first = Outcome::of_first(ask(&mut value), lent.is_as_before());
+    let first = Outcome::of_first(ask(&mut value), borrowed.is_as_before());
     match first {
         Outcome::Wanting => {
             if is_as_before(&value) {
@@ -73,7 +73,7 @@ pub fn change<L: Lent, V: Drop, F: Fn(&mut V) -> Answer, B: Fn(&V) -> bool>(
 
 impl Tally {
     /// What is made to be lent to calls, made again after want of memory.
-    pub fn lent<L: Drop, F: Fn(Global) -> Option<L>>(
+    pub fn borrowed<L: Drop, F: Fn(Global) -> Option<L>>(
         &mut self,
         rt: &HostRuntime,
         title: &str,
@@ -82,14 +82,14 @@ impl Tally {
     ) -> Option<L>
         requires { F.IsAlwaysCallable make }
     {
-        if let Some(lent) = make(rt.alloc()) {
-            return Some(lent);
+        if let Some(borrowed) = make(rt.alloc()) {
+            return Some(borrowed);
         }
-        let lent = make(rt.alloc());
-        if lent.is_none() {
+        let borrowed = make(rt.alloc());
+        if borrowed.is_none() {
             self.note(rt, title, name, Outcome::Unprepared);
         }
-        lent
+        borrowed
     }
 
     /// Makes a call, and makes it again where what it needs could not be made.
@@ -97,68 +97,68 @@ impl Tally {
         &mut self,
         rt: &HostRuntime,
         title: &str,
-        lent: &L,
+        borrowed: &L,
         name: &str,
         call: F,
     )
         requires { F.IsAlwaysCallable call }
     {
-        let outcome = match call(rt.alloc(), lent) {
-            Outcome::Unprepared => call(rt.alloc(), lent),
+        let outcome = match call(rt.alloc(), borrowed) {
+            Outcome::Unprepared => call(rt.alloc(), borrowed),
             outcome => outcome,
         };
         self.note(rt, title, name, outcome);
     }
 
     /// The same of a call that only asks, and is asked again after want of memory.
-    pub fn ask<L: Lent, F: Fn(Global, &L) -> Answer>(
+    pub fn ask<L: Borrowed, F: Fn(Global, &L) -> Answer>(
         &mut self,
         rt: &HostRuntime,
         title: &str,
-        lent: &L,
+        borrowed: &L,
         name: &str,
         ask: F,
     )
         requires { F.IsAlwaysCallable ask }
     {
-        self.test(rt, title, lent, name, |alloc: Global, lent: &L| {
-            ask_twice(alloc, lent, &ask)
+        self.test(rt, title, borrowed, name, |alloc: Global, borrowed: &L| {
+            ask_twice(alloc, borrowed, &ask)
         });
     }
 
     /// The same of a call that tells whether it was right.
-    pub fn attempt<L: Lent, F: Fn(Global, &L) -> Result<bool, OutOfMemory>>(
+    pub fn attempt<L: Borrowed, F: Fn(Global, &L) -> Result<bool, OutOfMemory>>(
         &mut self,
         rt: &HostRuntime,
         title: &str,
-        lent: &L,
+        borrowed: &L,
         name: &str,
         call: F,
     )
         requires { F.IsAlwaysCallable call }
     {
-        self.ask(rt, title, lent, name, |alloc: Global, lent: &L| {
-            Answer::of_result(call(alloc, lent))
+        self.ask(rt, title, borrowed, name, |alloc: Global, borrowed: &L| {
+            Answer::of_result(call(alloc, borrowed))
         });
     }
 
     /// Makes a call that takes no memory.
-    pub fn ask_without_memory<L: Lent, F: Fn(&L) -> bool>(
+    pub fn ask_without_memory<L: Borrowed, F: Fn(&L) -> bool>(
         &mut self,
         rt: &HostRuntime,
         title: &str,
-        lent: &L,
+        borrowed: &L,
         name: &str,
         is_right: F,
     )
         requires { F.IsAlwaysCallable is_right }
     {
-        let answer = Answer::of(is_right(lent));
+        let answer = Answer::of(is_right(borrowed));
         self.note_without_memory(
             rt,
             title,
             name,
-            Outcome::of_first(answer, lent.is_as_before()),
+            Outcome::of_first(answer, borrowed.is_as_before()),
         );
     }
 }

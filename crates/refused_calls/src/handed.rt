@@ -51,7 +51,7 @@ impl Tally {
 
     /// Makes what calls are handed, then one request, the last, and then the calls.
     pub fn test_handed<H: Handed>(&mut self, rt: &HostRuntime) {
-        let made = self.lent(
+        let made = self.borrowed(
             rt,
             TITLE,
             "what is handed over",

@@ -1,7 +1,7 @@
 //! Calls that are listed in a table. A generic loop makes them, so that a check sees what is lent, and how it is
 //! dropped, once and not with each call.
 
-use crate::calls::Lent;
+use crate::calls::Borrowed;
 use crate::outcome::Tally;
 use faults::OutOfMemory;
 use std::alloc::Global;
@@ -10,7 +10,7 @@ use std::alloc::Global;
 pub type Row<C> = (&'static str, C);
 
 /// What is lent to the calls of a table.
-pub trait Lends: Lent + Drop + Sized {
+pub trait Lends: Borrowed + Drop + Sized {
     /// Tells the calls apart.
     type Call: Copy;
 
@@ -24,11 +24,11 @@ pub trait Lends: Lent + Drop + Sized {
 impl Tally {
     /// Makes each call of a table, as `attempt` does.
     pub fn attempt_each<L: Lends>(&mut self, rt: &HostRuntime, title: &str, rows: &[Row<L::Call>]) {
-        let made = self.lent(rt, title, "what is lent", |alloc: Global| L::make(alloc));
-        if let Some(lent) = made {
+        let made = self.borrowed(rt, title, "what is borrowed", |alloc: Global| L::make(alloc));
+        if let Some(borrowed) = made {
             for (name, call) in rows {
-                self.attempt(rt, title, &lent, name, |alloc: Global, lent: &L| {
-                    lent.answer(alloc, *call)
+                self.attempt(rt, title, &borrowed, name, |alloc: Global, borrowed: &L| {
+                    borrowed.answer(alloc, *call)
                 });
             }
         }

@@ -17,14 +17,14 @@ use streams::Squares;
 
 /// Makes these calls; last those that take no memory.
 pub(crate) fn test(rt: &HostRuntime, tally: &mut Tally) {
-    let lent = tally.lent(rt, "without memory", "its map", Squares::of);
+    let borrowed = tally.borrowed(rt, "without memory", "its map", Squares::of);
     parts::test(rt, tally);
     worked::test(rt, tally);
     taken::test(rt, tally);
     recuts::test(rt, tally);
     unions::test(rt, tally);
     arcs::test(rt, tally);
-    if let Some(squares) = &lent {
+    if let Some(squares) = &borrowed {
         streams::test(rt, tally, squares);
     }
 }

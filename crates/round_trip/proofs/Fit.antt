@@ -29,7 +29,7 @@ use Rattle.shapes.proofs.Entries.{at_entry}
 use Rattle.shapes.specs.Ids.{IsI64}
 use Rattle.round_trip.proofs.CompactLemmas.Numbers.{IsI64-between}
 use Rattle.topo_io.proofs.Entries.{holds_item}
-use Rattle.round_trip.proofs.Standing.{BoxStands}
+use Rattle.round_trip.proofs.ValidText.{IsValidBox}
 use Rattle.topo.proofs.Positions.{around_has}
 
 -- ---- shapes
@@ -145,9 +145,9 @@ module _ (g : Transform) (m : Layers) (fits : MapFits g m) where
 
   abbrev MayStand : Option Corners → Type 0
   MayStand None = Unit {0}
-  MayStand (Some c) = BoxStands c
+  MayStand (Some c) = IsValidBox c
 
-  widened_stands : (b : Option Corners) (p : Pos) → MayStand b → Fits g p → BoxStands (widened g b p)
+  widened_stands : (b : Option Corners) (p : Pos) → MayStand b → Fits g p → IsValidBox (widened g b p)
   widened_stands None p h f =
       let x = I64-absolute (absolute_place g p).0 f.x.absolute in
       let y = I64-absolute (absolute_place g p).1 f.y.absolute in
@@ -161,5 +161,5 @@ module _ (g : Transform) (m : Layers) (fits : MapFits g m) where
   from_stands b [] h f = h
   from_stands b (p ∷ ps) h f = from_stands (Some (widened g b p)) ps (widened_stands b p h (f p (inl refl))) (λ q k. f q (inr k))
 
-  pub box_stands : (c : Corners) → box_of g (positions_of (seen m)) ≡ Some c → BoxStands c
+  pub box_stands : (c : Corners) → box_of g (positions_of (seen m)) ≡ Some c → IsValidBox c
   box_stands c e = subst MayStand e (from_stands None (positions_of (seen m)) tt all_fit)

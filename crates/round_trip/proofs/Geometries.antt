@@ -31,7 +31,7 @@ use Rattle.round_trip.proofs.CompactLemmas.Lists.{list_faultless, elements_are, 
 use Rattle.round_trip.proofs.CompactLemmas.Members.{get_past, get_here}
 use Rattle.round_trip.specs.Values.{position_data, index_data, used_data, coordinates_data, type_data, type_member, after_id, after_coordinates, after_arcs, geometry_data, layer_data, layers_data}
 use Rattle.round_trip.proofs.Positions.{position_none, position_means}
-use Rattle.round_trip.proofs.Standing.{LineStands, RingStands, Stands, LayerStands, right_of, pairs_mean}
+use Rattle.round_trip.proofs.ValidText.{IsValidLine, IsValidRing, IsValidGeometry, IsValidLayer, right_of, pairs_mean}
 use Rattle.round_trip.proofs.Stitched.{list_none, stitched_back}
 
 -- ---- the members of a geometry
@@ -93,25 +93,25 @@ kind_is h = ap (λ o. geometry_by (type_or_missing o)) (get_type h) ∙ type_rea
 -- ---- shapes
 
 module _ (g : Transform) (arcs : List (List Pos)) (few : length arcs ≤ 2 ^ 63) where
-  line_none : (l : List Pos) (used : List ArcRef) → LineStands arcs l used → line_list_faults (known arcs) (list_data index_data used) ≡ []
+  line_none : (l : List Pos) (used : List ArcRef) → IsValidLine arcs l used → line_list_faults (known arcs) (list_data index_data used) ≡ []
   line_none l used s = list_none arcs few line_faults used s.list s.stitches s.none
 
-  ring_none : (l : List Pos) (used : List ArcRef) → RingStands arcs l used → ring_list_faults (known arcs) (list_data index_data used) ≡ []
+  ring_none : (l : List Pos) (used : List ArcRef) → IsValidRing arcs l used → ring_list_faults (known arcs) (list_data index_data used) ≡ []
   ring_none l used s = list_none arcs few ring_faults used s.list s.stitches s.none
 
-  line_means : (l : List Pos) (used : List ArcRef) → LineStands arcs l used → line_at arcs (list_data index_data used) ≡ l
+  line_means : (l : List Pos) (used : List ArcRef) → IsValidLine arcs l used → line_at arcs (list_data index_data used) ≡ l
   line_means l used s = ap line_of (stitched_back arcs few used s.list s.stitches) ∙ s.same
 
-  ring_means : (l : List Pos) (used : List ArcRef) → RingStands arcs l used → ring_at arcs (list_data index_data used) ≡ l
+  ring_means : (l : List Pos) (used : List ArcRef) → IsValidRing arcs l used → ring_at arcs (list_data index_data used) ≡ l
   ring_means l used s = ap ring_of (stitched_back arcs few used s.list s.stitches) ∙ s.same
 
-  rings_none : (rs : List (List Pos)) (us : List (List ArcRef)) → Pairwise (RingStands arcs) rs us → list_faults (ring_list_faults (known arcs)) (list_data (list_data index_data) us) ≡ []
-  rings_none rs us h = list_faultless (list_data index_data) (ring_list_faults (known arcs)) us (λ u k. let r = right_of (RingStands arcs) rs us h u k in ring_none r.0 u r.1)
+  rings_none : (rs : List (List Pos)) (us : List (List ArcRef)) → Pairwise (IsValidRing arcs) rs us → list_faults (ring_list_faults (known arcs)) (list_data (list_data index_data) us) ≡ []
+  rings_none rs us h = list_faultless (list_data index_data) (ring_list_faults (known arcs)) us (λ u k. let r = right_of (IsValidRing arcs) rs us h u k in ring_none r.0 u r.1)
 
-  rings_mean : (rs : List (List Pos)) (us : List (List ArcRef)) → Pairwise (RingStands arcs) rs us → map (ring_at arcs) (elements (list_data (list_data index_data) us)) ≡ rs
-  rings_mean rs us h = ap (map (ring_at arcs)) (elements_are (list_data index_data) us) ∙ pairs_mean (RingStands arcs) (list_data index_data) (ring_at arcs) rs us h ring_means
+  rings_mean : (rs : List (List Pos)) (us : List (List ArcRef)) → Pairwise (IsValidRing arcs) rs us → map (ring_at arcs) (elements (list_data (list_data index_data) us)) ≡ rs
+  rings_mean rs us h = ap (map (ring_at arcs)) (elements_are (list_data index_data) us) ∙ pairs_mean (IsValidRing arcs) (list_data index_data) (ring_at arcs) rs us h ring_means
 
-  shape_none : (f : PlainForm) (b : Body Pos) (d : Data) → IsFormOf (LineStands arcs) (RingStands arcs) f b → ((q : Pos) → Has q (points_in b) → Fits g q)
+  shape_none : (f : PlainForm) (b : Body Pos) (d : Data) → IsFormOf (IsValidLine arcs) (IsValidRing arcs) f b → ((q : Pos) → Has q (points_in b) → Fits g q)
       → get (codes "arcs") d ≡ used_data b → get (codes "coordinates") d ≡ coordinates_data b → shape_faults (limits_on g) (known arcs) (kind_of b) d ≡ []
   shape_none null null d h fit a c = refl
   shape_none (point p) (point q) d h fit a c =
@@ -123,16 +123,16 @@ module _ (g : Transform) (arcs : List (List Pos)) (few : length arcs ≤ 2 ^ 63)
       ap (λ o. under (name (codes "arcs")) (there (line_list_faults (known arcs)) o)) a ∙ ap (under (name (codes "arcs"))) (line_none l used h)
   shape_none (lines ls) (lines us) d h fit a c =
       ap (λ o. under (name (codes "arcs")) (there (list_faults (line_list_faults (known arcs))) o)) a
-      ∙ ap (under (name (codes "arcs"))) (list_faultless (list_data index_data) (line_list_faults (known arcs)) us (λ u k. let l = right_of (LineStands arcs) ls us h u k in line_none l.0 u l.1))
+      ∙ ap (under (name (codes "arcs"))) (list_faultless (list_data index_data) (line_list_faults (known arcs)) us (λ u k. let l = right_of (IsValidLine arcs) ls us h u k in line_none l.0 u l.1))
   shape_none (polygon rs) (polygon us) d h fit a c =
       ap (λ o. under (name (codes "arcs")) (there (list_faults (ring_list_faults (known arcs))) o)) a ∙ ap (under (name (codes "arcs"))) (rings_none rs us h)
   shape_none (polygons ps) (polygons us) d h fit a c =
       ap (λ o. under (name (codes "arcs")) (there (list_faults (list_faults (ring_list_faults (known arcs)))) o)) a
       ∙ ap (under (name (codes "arcs"))) (list_faultless (list_data (list_data index_data)) (list_faults (ring_list_faults (known arcs))) us
-      (λ u k. let r = right_of (Pairwise (RingStands arcs)) ps us h u k in rings_none r.0 u r.1))
+      (λ u k. let r = right_of (Pairwise (IsValidRing arcs)) ps us h u k in rings_none r.0 u r.1))
   shape_none f b d h fit a c = absurd h
 
-  shape_means : (f : PlainForm) (b : Body Pos) (d : Data) → IsFormOf (LineStands arcs) (RingStands arcs) f b
+  shape_means : (f : PlainForm) (b : Body Pos) (d : Data) → IsFormOf (IsValidLine arcs) (IsValidRing arcs) f b
       → get (codes "arcs") d ≡ used_data b → get (codes "coordinates") d ≡ coordinates_data b → shape_form arcs (kind_of b) d ≡ f
   shape_means null null d h a c = refl
   shape_means (point p) (point q) d h a c = ap (λ o. body_form arcs Point (unwrap_or o json.null)) c ∙ ap point (position_means g q) ∙ ap point (sym h)
@@ -142,29 +142,29 @@ module _ (g : Transform) (arcs : List (List Pos)) (few : length arcs ≤ 2 ^ 63)
   shape_means (line l) (line used) d h a c = ap (λ o. body_form arcs LineString (unwrap_or o json.null)) a ∙ ap line (line_means l used h)
   shape_means (lines ls) (lines us) d h a c =
       ap (λ o. body_form arcs MultiLineString (unwrap_or o json.null)) a
-      ∙ ap lines (ap (map (line_at arcs)) (elements_are (list_data index_data) us) ∙ pairs_mean (LineStands arcs) (list_data index_data) (line_at arcs) ls us h line_means)
+      ∙ ap lines (ap (map (line_at arcs)) (elements_are (list_data index_data) us) ∙ pairs_mean (IsValidLine arcs) (list_data index_data) (line_at arcs) ls us h line_means)
   shape_means (polygon rs) (polygon us) d h a c = ap (λ o. body_form arcs Polygon (unwrap_or o json.null)) a ∙ ap polygon (rings_mean rs us h)
   shape_means (polygons ps) (polygons us) d h a c =
       ap (λ o. body_form arcs MultiPolygon (unwrap_or o json.null)) a
       ∙ ap polygons (ap (map (λ p. map (ring_at arcs) (elements p))) (elements_are (list_data (list_data index_data)) us)
-      ∙ pairs_mean (Pairwise (RingStands arcs)) (list_data (list_data index_data)) (λ p. map (ring_at arcs) (elements p)) ps us h rings_mean)
+      ∙ pairs_mean (Pairwise (IsValidRing arcs)) (list_data (list_data index_data)) (λ p. map (ring_at arcs) (elements p)) ps us h rings_mean)
   shape_means f b d h a c = absurd h
 
   -- ---- geometries
 
-  info_none : (h : Item Info (Body Pos)) (p : Plain) → Stands g arcs p h → info_faults (geometry_data h) ≡ []
+  info_none : (h : Item Info (Body Pos)) (p : Plain) → IsValidGeometry g arcs p h → info_faults (geometry_data h) ≡ []
   info_none h p s =
       ap₂ (λ (a b : List Pair). a ++ b)
       (ap (λ o. under (name (codes "id")) (if_there id_faults o)) (get_id h) ∙ ap (under (name (codes "id"))) (id_faultless h.info.0 s.stored))
       (ap (λ o. under (name (codes "properties")) (if_there properties_faults o)) (get_properties h) ∙ ap (under (name (codes "properties"))) (properties_faultless h.info.1))
 
-  pub geometry_none : (p : Plain) (h : Item Info (Body Pos)) → Stands g arcs p h → geometry_faults (limits_on g) (known arcs) (geometry_data h) ≡ []
+  pub geometry_none : (p : Plain) (h : Item Info (Body Pos)) → IsValidGeometry g arcs p h → geometry_faults (limits_on g) (known arcs) (geometry_data h) ≡ []
   geometry_none p h s =
       let d = geometry_data h in
       ap (typed_faults (λ k. typed_faults_of (limits_on g) (known arcs) k d)) (kind_is h)
       ∙ ap₂ (λ (a b : List Pair). a ++ b) (shape_none p.form h.form d s.form s.points (get_arcs h) (get_coordinates h)) (info_none h p s)
 
-  pub geometry_means : (p : Plain) (h : Item Info (Body Pos)) → Stands g arcs p h → geometry_feature arcs (geometry_data h) ≡ p
+  pub geometry_means : (p : Plain) (h : Item Info (Body Pos)) → IsValidGeometry g arcs p h → geometry_feature arcs (geometry_data h) ≡ p
   geometry_means p h s =
       let d = geometry_data h in
       let i : id_of (member_or_null (codes "id") d) ≡ p.id = ap (λ o. id_of (unwrap_or o json.null)) (get_id h) ∙ id_means h.info.0 s.stored ∙ s.id in
@@ -175,22 +175,22 @@ module _ (g : Transform) (arcs : List (List Pos)) (few : length arcs ≤ 2 ^ 63)
 
   -- ---- layers
 
-  layer_none : (l : List ℕ × List Plain) (k : Layer (Item Info (Body Pos))) → LayerStands g arcs l k → layer_faults (limits_on g) (known arcs) (layer_data k) ≡ []
+  layer_none : (l : List ℕ × List Plain) (k : Layer (Item Info (Body Pos))) → IsValidLayer g arcs l k → layer_faults (limits_on g) (known arcs) (layer_data k) ≡ []
   layer_none l k s =
       ap (under (name (codes "geometries"))) (list_faultless geometry_data (geometry_faults (limits_on g) (known arcs)) k.items
-      (λ h there. let p = right_of (Stands g arcs) l.1 k.items s.items h there in geometry_none p.0 h p.1))
+      (λ h there. let p = right_of (IsValidGeometry g arcs) l.1 k.items s.items h there in geometry_none p.0 h p.1))
 
-  layer_means : (l : List ℕ × List Plain) (k : Layer (Item Info (Body Pos))) → LayerStands g arcs l k → layer_features arcs (layer_data k) ≡ l.1
+  layer_means : (l : List ℕ × List Plain) (k : Layer (Item Info (Body Pos))) → IsValidLayer g arcs l k → layer_features arcs (layer_data k) ≡ l.1
   layer_means l k s =
-      ap (map (geometry_feature arcs)) (elements_are geometry_data k.items) ∙ pairs_mean (Stands g arcs) geometry_data (geometry_feature arcs) l.1 k.items s.items geometry_means
+      ap (map (geometry_feature arcs)) (elements_are geometry_data k.items) ∙ pairs_mean (IsValidGeometry g arcs) geometry_data (geometry_feature arcs) l.1 k.items s.items geometry_means
 
-  pub layers_none : (ls : List (List ℕ × List Plain)) (ks : List (Layer (Item Info (Body Pos)))) → Pairwise (LayerStands g arcs) ls ks → each_member_faults (layer_faults (limits_on g) (known arcs)) (layers_data ks) ≡ []
+  pub layers_none : (ls : List (List ℕ × List Plain)) (ks : List (Layer (Item Info (Body Pos)))) → Pairwise (IsValidLayer g arcs) ls ks → each_member_faults (layer_faults (limits_on g) (known arcs)) (layers_data ks) ≡ []
   layers_none [] [] h = refl
   layers_none [] (k ∷ ks) h = absurd h
   layers_none (l ∷ ls) [] h = absurd h
   layers_none (l ∷ ls) (k ∷ ks) h = ap₂ (λ (a b : List Pair). under (name k.name) a ++ b) (layer_none l k h.0) (layers_none ls ks h.1)
 
-  pub layers_mean : (ls : List (List ℕ × List Plain)) (ks : List (Layer (Item Info (Body Pos)))) → Pairwise (LayerStands g arcs) ls ks → layers_in arcs (layers_data ks) ≡ ls
+  pub layers_mean : (ls : List (List ℕ × List Plain)) (ks : List (Layer (Item Info (Body Pos)))) → Pairwise (IsValidLayer g arcs) ls ks → layers_in arcs (layers_data ks) ≡ ls
   layers_mean [] [] h = refl
   layers_mean [] (k ∷ ks) h = absurd h
   layers_mean (l ∷ ls) [] h = absurd h

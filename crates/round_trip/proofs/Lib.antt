@@ -2,7 +2,7 @@ pub mod CompactLemmas
 pub mod GeojsonLemmas
 pub mod TextIs
 pub mod Stitched
-pub mod Standing
+pub mod ValidText
 pub mod Positions
 pub mod Geometries
 pub mod Readable

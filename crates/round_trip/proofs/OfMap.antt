@@ -43,15 +43,15 @@ use Rattle.round_trip.specs.Laws.{IsHeldOf, WrittenTopologiesAreRead, OneMapOfAT
 use Rattle.topo_io.proofs.Entries.{names_ascend, meant, holds_layers}
 use Rattle.round_trip.proofs.Fit.{shape_places, feature_fits, chain_long, chain_fits, box_stands}
 use Rattle.round_trip.proofs.Root.{text_accepted, text_grid, text_layers}
-use Rattle.round_trip.proofs.Standing.{LineStands, RingStands, Stands, LayerStands, TopologyStands}
+use Rattle.round_trip.proofs.ValidText.{IsValidLine, IsValidRing, IsValidGeometry, IsValidLayer, IsValidTopology}
 
 -- ---- forms
 
 module _ (J : Pos → Type 0) (arcs : List (List Pos)) where
-  line_stands : (l : the_line.Line) (used : List ArcRef) → StitchTo arcs used (lines_seen.positions_of l) → LineStands arcs (lines_seen.positions_of l) used
+  line_stands : (l : the_line.Line) (used : List ArcRef) → StitchTo arcs used (lines_seen.positions_of l) → IsValidLine arcs (lines_seen.positions_of l) used
   line_stands l used h = record { list = lines_seen.positions_of l; stitches = h; none = ap outline_faults (line_reads l).0; same = (line_reads l).1 }
 
-  is_valid_ring : (r : the_ring.Ring) (used : List ArcRef) → IsRingList position_cmp J arcs (lines_seen.vertices_of r) used → RingStands arcs (lines_seen.vertices_of r) used
+  is_valid_ring : (r : the_ring.Ring) (used : List ArcRef) → IsRingList position_cmp J arcs (lines_seen.vertices_of r) used → IsValidRing arcs (lines_seen.vertices_of r) used
   is_valid_ring r used h =
       let reads = ring_reads r (h.0 ∷ h.1) h.2.rotation in
       record { list = closed (h.0 ∷ h.1); stitches = h.3; none = ap outline_faults reads.0; same = reads.1 }
@@ -62,17 +62,17 @@ module _ (J : Pos → Type 0) (arcs : List (List Pos)) where
   pairs_stand P Q f to (l ∷ ls) [] h = absurd h
   pairs_stand P Q f to (l ∷ ls) (u ∷ us) h = (to l u h.0, pairs_stand P Q f to ls us h.1)
 
-  rings_stand : (rs : List the_ring.Ring) (us : List (List ArcRef)) → Pairwise (IsRingList position_cmp J arcs) (map_list ring_of rs) us → Pairwise (RingStands arcs) (map_list ring_of rs) us
-  rings_stand = pairs_stand (IsRingList position_cmp J arcs) (RingStands arcs) ring_of is_valid_ring
+  rings_stand : (rs : List the_ring.Ring) (us : List (List ArcRef)) → Pairwise (IsRingList position_cmp J arcs) (map_list ring_of rs) us → Pairwise (IsValidRing arcs) (map_list ring_of rs) us
+  rings_stand = pairs_stand (IsRingList position_cmp J arcs) (IsValidRing arcs) ring_of is_valid_ring
 
-  form_stands : (s : shapes.Shape) (b : Body Pos) → IsFormOf (λ l used. StitchTo arcs used l) (IsRingList position_cmp J arcs) (form_of s) b → IsFormOf (LineStands arcs) (RingStands arcs) (plain_form s) b
+  form_stands : (s : shapes.Shape) (b : Body Pos) → IsFormOf (λ l used. StitchTo arcs used l) (IsRingList position_cmp J arcs) (form_of s) b → IsFormOf (IsValidLine arcs) (IsValidRing arcs) (plain_form s) b
   form_stands of.Null null h = tt
   form_stands (of.Point p) (point q) h = h
   form_stands (of.MultiPoint ps) (points qs) h = h
   form_stands (of.Line l) (line used) h = line_stands l used h
-  form_stands (of.MultiLine ls) (lines us) h = pairs_stand (λ l used. StitchTo arcs used l) (LineStands arcs) line_of line_stands ls us h
+  form_stands (of.MultiLine ls) (lines us) h = pairs_stand (λ l used. StitchTo arcs used l) (IsValidLine arcs) line_of line_stands ls us h
   form_stands (of.Polygon rs) (polygon us) h = rings_stand rs us h
-  form_stands (of.MultiPolygon ps) (polygons us) h = pairs_stand (Pairwise (IsRingList position_cmp J arcs)) (Pairwise (RingStands arcs)) (map_list ring_of) rings_stand ps us h
+  form_stands (of.MultiPolygon ps) (polygons us) h = pairs_stand (Pairwise (IsRingList position_cmp J arcs)) (Pairwise (IsValidRing arcs)) (map_list ring_of) rings_stand ps us h
   form_stands s b h = absurd h
 
 -- ---- features and layers
@@ -83,7 +83,7 @@ record EntryStands (g : Transform) (e : List ℕ × Features) : Type 0 where
   features : (f : Feature) → Has f (set.items e.1) → ShapeFits g f.shape
 
 module _ (g : Transform) (J : Pos → Type 0) (arcs : List (List Pos)) where
-  geometry_stands : (f : Feature) (h : Item Info (Body Pos)) → ShapeFits g f.shape → IsGeometryOf position_cmp J arcs (item_of f) h → Stands g arcs (plain f) h
+  geometry_stands : (f : Feature) (h : Item Info (Body Pos)) → ShapeFits g f.shape → IsGeometryOf position_cmp J arcs (item_of f) h → IsValidGeometry g arcs (plain f) h
   geometry_stands f h ok s = record {
     stored = subst (λ (i : Info). HasI64 i.0) s.info f.bits;
     id = ap (λ (i : Info). plain_id i.0) (sym s.info);
@@ -95,14 +95,14 @@ module _ (g : Transform) (J : Pos → Type 0) (arcs : List (List Pos)) where
         (subst (Has q) (sym (same_points _ _ (form_of f.shape) h.form s.form)) k));
   }
 
-  geometries_stand : (fs : List Feature) (hs : List (Item Info (Body Pos))) → ((f : Feature) → Has f fs → ShapeFits g f.shape) → Pairwise (IsGeometryOf position_cmp J arcs) (map_list item_of fs) hs → Pairwise (Stands g arcs) (map_list plain fs) hs
+  geometries_stand : (fs : List Feature) (hs : List (Item Info (Body Pos))) → ((f : Feature) → Has f fs → ShapeFits g f.shape) → Pairwise (IsGeometryOf position_cmp J arcs) (map_list item_of fs) hs → Pairwise (IsValidGeometry g arcs) (map_list plain fs) hs
   geometries_stand [] [] ok s = tt
   geometries_stand [] (h ∷ hs) ok s = absurd s
   geometries_stand (f ∷ fs) [] ok s = absurd s
   geometries_stand (f ∷ fs) (h ∷ hs) ok s = (geometry_stands f h (ok f (inl refl)) s.0, geometries_stand fs hs (λ x k. ok x (inr k)) s.1)
 
   layers_stand : (es : List (List ℕ × Features)) (ks : List (Layer (Item Info (Body Pos)))) → ((e : List ℕ × Features) → Has e es → EntryStands g e) → Pairwise (IsLayerOf position_cmp J arcs) (map_list layer_of es) ks
-      → Pairwise (LayerStands g arcs) (map_list meant es) ks
+      → Pairwise (IsValidLayer g arcs) (map_list meant es) ks
   layers_stand [] [] ok s = tt
   layers_stand [] (k ∷ ks) ok s = absurd s
   layers_stand (e ∷ es) [] ok s = absurd s
@@ -143,7 +143,7 @@ module _ (m : Layers) (t : TopologyParts) (held : IsHeldOf m t) (fits : MapFits 
   entry_stands : (e : List ℕ × Features) → Has e (map.entries m) → EntryStands t.grid e
   entry_stands e there = record { name = name_is_text m t held.of_map e there; features = λ f h. feature_fits t.grid m fits e there f h }
 
-  stands : TopologyStands seen_topology (map_list meant (map.entries m))
+  stands : IsValidTopology seen_topology (map_list meant (map.entries m))
   stands = record {
     limits = held.limits;
     few = held.few;

@@ -25,7 +25,7 @@ use Rattle.round_trip.proofs.CompactLemmas.Members.{OptionGood, ComesBefore-give
 use Rattle.round_trip.proofs.CompactLemmas.Numbers.{Fits-IsI64}
 use Rattle.round_trip.specs.Values.{position_data, arc_data, index_data, used_data, coordinates_data, type_data, type_member, after_id, after_coordinates, after_arcs, geometry_data, layer_data, layers_data, box_data, transform_data, after_box, topology_data}
 use Rattle.round_trip.proofs.Positions.{Good-position, Good-arc, I64-scale, I64-translation}
-use Rattle.round_trip.proofs.Standing.{LineStands, RingStands, Stands, LayerStands, BoxStands, TopologyStands, right_of}
+use Rattle.round_trip.proofs.ValidText.{IsValidLine, IsValidRing, IsValidGeometry, IsValidLayer, IsValidBox, IsValidTopology, right_of}
 use Rattle.round_trip.proofs.Stitched.{Good-used}
 
 -- ---- geometries
@@ -49,22 +49,22 @@ module _ (g : Transform) (arcs : List (List Pos)) (few : length arcs ≤ 2 ^ 63)
   Good-coordinates (polygon rs) = tt
   Good-coordinates (polygons ps) = tt
 
-  Good-rings : (rs : List (List Pos)) (us : List (List ArcRef)) → Pairwise (RingStands arcs) rs us → Good 2 (list_data (list_data index_data) us)
-  Good-rings rs us h = Good-list (list_data index_data) 1 us (λ u k. let r = right_of (RingStands arcs) rs us h u k in Good-used arcs few u r.1.list r.1.stitches)
+  Good-rings : (rs : List (List Pos)) (us : List (List ArcRef)) → Pairwise (IsValidRing arcs) rs us → Good 2 (list_data (list_data index_data) us)
+  Good-rings rs us h = Good-list (list_data index_data) 1 us (λ u k. let r = right_of (IsValidRing arcs) rs us h u k in Good-used arcs few u r.1.list r.1.stitches)
 
-  Good-arcs : (f : PlainForm) (b : Body Pos) → IsFormOf (LineStands arcs) (RingStands arcs) f b → OptionGood 64 (used_data b)
+  Good-arcs : (f : PlainForm) (b : Body Pos) → IsFormOf (IsValidLine arcs) (IsValidRing arcs) f b → OptionGood 64 (used_data b)
   Good-arcs null null h = tt
   Good-arcs (point p) (point q) h = tt
   Good-arcs (points ps) (points qs) h = tt
   Good-arcs (line l) (line used) h = deeper 1 64 _ (omega arith) (Good-used arcs few used h.list h.stitches)
   Good-arcs (lines ls) (lines us) h =
-      deeper 2 64 _ (omega arith) (Good-list (list_data index_data) 1 us (λ u k. let l = right_of (LineStands arcs) ls us h u k in Good-used arcs few u l.1.list l.1.stitches))
+      deeper 2 64 _ (omega arith) (Good-list (list_data index_data) 1 us (λ u k. let l = right_of (IsValidLine arcs) ls us h u k in Good-used arcs few u l.1.list l.1.stitches))
   Good-arcs (polygon rs) (polygon us) h = deeper 2 64 _ (omega arith) (Good-rings rs us h)
   Good-arcs (polygons ps) (polygons us) h =
-      deeper 3 64 _ (omega arith) (Good-list (list_data (list_data index_data)) 2 us (λ u k. let r = right_of (Pairwise (RingStands arcs)) ps us h u k in Good-rings r.0 u r.1))
+      deeper 3 64 _ (omega arith) (Good-list (list_data (list_data index_data)) 2 us (λ u k. let r = right_of (Pairwise (IsValidRing arcs)) ps us h u k in Good-rings r.0 u r.1))
   Good-arcs f b h = absurd h
 
-  Good-geometry : (p : Plain) (h : Item Info (Body Pos)) → Stands g arcs p h → Good 65 (geometry_data h)
+  Good-geometry : (p : Plain) (h : Item Info (Body Pos)) → IsValidGeometry g arcs p h → Good 65 (geometry_data h)
   Good-geometry p h s =
       let properties = properties_data (properties_text h.info.1) in
       let good1 : GoodMembers 64 (type_member h.form) = (IsUtf8-are_ascii _ refl, tt, Good-type h.form, tt) in
@@ -82,12 +82,12 @@ module _ (g : Transform) (arcs : List (List Pos)) (few : length arcs ≤ 2 ^ 63)
 
   -- ---- layers
 
-  Good-layer : (l : List ℕ × List Plain) (k : Layer (Item Info (Body Pos))) → LayerStands g arcs l k → Good 67 (layer_data k)
+  Good-layer : (l : List ℕ × List Plain) (k : Layer (Item Info (Body Pos))) → IsValidLayer g arcs l k → Good 67 (layer_data k)
   Good-layer l k s =
       Good-object 66 _ (
         IsUtf8-are_ascii _ refl,
         (refl, tt),
-        Good-list geometry_data 65 k.items (λ h there. let p = right_of (Stands g arcs) l.1 k.items s.items h there in Good-geometry p.0 h p.1),
+        Good-list geometry_data 65 k.items (λ h there. let p = right_of (IsValidGeometry g arcs) l.1 k.items s.items h there in Good-geometry p.0 h p.1),
         (IsUtf8-are_ascii _ refl, tt, Good-string 66 _ (IsUtf8-are_ascii _ refl), tt),
       )
 
@@ -95,7 +95,7 @@ module _ (g : Transform) (arcs : List (List Pos)) (few : length arcs ≤ 2 ^ 63)
   before_all n [] h = tt
   before_all n (k ∷ ks) h = (h k.name (inl refl), before_all n ks (λ y j. h y (inr j)))
 
-  pub Good-layers : (ls : List (List ℕ × List Plain)) (ks : List (Layer (Item Info (Body Pos)))) → Pairwise (LayerStands g arcs) ls ks → Ascends (slice_cmp nat_cmp) (map (λ l. l.name) ks) → GoodMembers 67 (layers_data ks)
+  pub Good-layers : (ls : List (List ℕ × List Plain)) (ks : List (Layer (Item Info (Body Pos)))) → Pairwise (IsValidLayer g arcs) ls ks → Ascends (slice_cmp nat_cmp) (map (λ l. l.name) ks) → GoodMembers 67 (layers_data ks)
   Good-layers [] [] h a = tt
   Good-layers [] (k ∷ ks) h a = absurd h
   Good-layers (l ∷ ls) [] h a = absurd h
@@ -103,17 +103,17 @@ module _ (g : Transform) (arcs : List (List Pos)) (few : length arcs ≤ 2 ^ 63)
 
 -- ---- the root
 
-corners_fit : (c : Corners) → BoxStands c → (z : ℤ) → Has z (c.0 ∷ c.1 ∷ c.2 ∷ c.3 ∷ []) → IsI64 z
+corners_fit : (c : Corners) → IsValidBox c → (z : ℤ) → Has z (c.0 ∷ c.1 ∷ c.2 ∷ c.3 ∷ []) → IsI64 z
 corners_fit c h z (inl e) = subst IsI64 (sym e) h.west
 corners_fit c h z (inr (inl e)) = subst IsI64 (sym e) h.south
 corners_fit c h z (inr (inr (inl e))) = subst IsI64 (sym e) h.east
 corners_fit c h z (inr (inr (inr (inl e)))) = subst IsI64 (sym e) h.north
 corners_fit c h z (inr (inr (inr (inr n)))) = absurd n
 
-Good-corners : (c : Corners) → BoxStands c → Good 1 (box_data c)
+Good-corners : (c : Corners) → IsValidBox c → Good 1 (box_data c)
 Good-corners c h = Good-list integer 0 (c.0 ∷ c.1 ∷ c.2 ∷ c.3 ∷ []) (λ z k. Good-number 0 z (Fits-IsI64 z (corners_fit c h z k)))
 
-Good-box : (o : Option Corners) → ((c : Corners) → o ≡ Some c → BoxStands c) → OptionGood 68 (option_map box_data o)
+Good-box : (o : Option Corners) → ((c : Corners) → o ≡ Some c → IsValidBox c) → OptionGood 68 (option_map box_data o)
 Good-box None h = tt
 Good-box (Some c) h = deeper 1 68 _ (omega arith) (Good-corners c (h c refl))
 
@@ -126,7 +126,7 @@ Good-transform g h =
       (IsUtf8-are_ascii _ refl, tt, deeper 1 67 _ (omega arith) (Good-pair g.x.translate g.y.translate (I64-translation g.x.translate h.x.translate) (I64-translation g.y.translate h.y.translate)), tt),
     )
 
-pub Good-topology : (t : Seen) (ls : List (List ℕ × List Plain)) → TopologyStands t ls → Good 69 (topology_data t)
+pub Good-topology : (t : Seen) (ls : List (List ℕ × List Plain)) → IsValidTopology t ls → Good 69 (topology_data t)
 Good-topology t ls s =
     let box = option_map box_data t.bbox in
     let good_last : GoodMembers 68 (after_box t) = (

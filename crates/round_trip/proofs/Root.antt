@@ -24,10 +24,10 @@ use Rattle.round_trip.specs.Values.{arc_data, layers_data, box_data, transform_d
 use Rattle.round_trip.proofs.Geometries.{layers_none, layers_mean}
 use Rattle.round_trip.proofs.Positions.{arc_none, arcs_mean, scale_none, translate_none, numbers_back, I64-scale, I64-translation}
 use Rattle.round_trip.proofs.Readable.{Good-topology}
-use Rattle.round_trip.proofs.Standing.{TopologyStands}
+use Rattle.round_trip.proofs.ValidText.{IsValidTopology}
 use Rattle.round_trip.proofs.TextIs.{topology_is}
 
-module _ (t : Seen) (ls : List (List ℕ × List Plain)) (s : TopologyStands t ls) where
+module _ (t : Seen) (ls : List (List ℕ × List Plain)) (s : IsValidTopology t ls) where
   abbrev box : Option Data
   box = option_map box_data t.bbox
 

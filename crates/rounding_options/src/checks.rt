@@ -39,7 +39,7 @@ fn check_layer<'m>(options: &GridOptions<'m>, layer: &MapLayer<'m>) -> Result<()
     Ok(())
 }
 
-/// The same of the layers that texts name.
+/// The layers that texts name, each checked so.
 pub fn check_layers<'m>(
     alloc: Global,
     options: &GridOptions<'m>,

@@ -109,7 +109,7 @@ pub(crate) fn in_steps(alloc: Global, outcome: &Outcome) -> Result<String, Alloc
     text_of(alloc, Decimal::new(i128::from(outcome.tally.furthest), 4))
 }
 
-/// The same in the unit of the map, empty where it has too many digits.
+/// How far positions were moved at most, in the unit of the map; empty where it has too many digits.
 pub(crate) fn in_units(
     alloc: Global,
     outcome: &Outcome,

@@ -55,7 +55,7 @@ pub(crate) fn write_pair(x: i64, y: i64, bytes: &mut [u8; LONGEST_PAIR]) -> usiz
     write_pair_to(x, y, bytes, LONGEST_PAIR)
 }
 
-/// The same after a comma.
+/// Writes a comma and two numbers in brackets so that they end where the bytes end, and answers where they start.
 pub(crate) fn write_pair_after_comma(x: i64, y: i64, bytes: &mut [u8; LONGEST_AFTER_COMMA]) -> usize
     ensures within { result ≤ 44 }
     ensures written { drop result bytes.new ≡ codes "," ++ pair_text x y }

@@ -34,8 +34,8 @@ use Rattle.arcs.proofs.TurnedLists.{turned_at}
 use Rattle.split_heal.specs.Choosing.{kept_numbers}
 use Rattle.split_heal.specs.HealedArcs.{begun_at, chain_by, directed, from_least, goes_round, is_there, list_by, list_of_run, piece_by, piece_of_run, put_all, run_along}
 use Rattle.split_heal.specs.PseudoNodes.{Begins, IsVerdict, partner_in}
-use Rattle.split_heal.specs.HealedParts.{RejoinedParts}
-use Rattle.split_heal.specs.Healing.{IsLeftBy, IsRejoinedOf}
+use Rattle.split_heal.specs.HealedParts.{HealedParts}
+use Rattle.split_heal.specs.Healing.{IsLeftBy, IsHealedOf}
 use Rattle.split_heal.specs.Walks.{ArePaired, AreRuns, IsRun, IsWalked}
 use Rattle.split_heal.specs.declared.pseudo_nodes.PseudoNodes.{PseudoNodes}
 use Rattle.split_heal.proofs.Choices.{numbers_once}
@@ -348,8 +348,8 @@ module _ (g u : Geometry Pos) (old : Arcs) (marks : List Bool) (ending : List Po
           no = λ z free. let (v, on, j) = (told r (are.each r i)).stops e in free v on j;
         }
 
-    pub rejoins : IsRejoinedOf g u old (record { arcs = t; pieces = made })
-    rejoins = record {
+    pub heals : IsHealedOf g u old (record { arcs = t; pieces = made })
+    heals = record {
       table = record {
         arcs = refined.old;
         free = all_marked J (map piece runs) t good loops once.only;
@@ -359,30 +359,30 @@ module _ (g u : Geometry Pos) (old : Arcs) (marks : List Bool) (ending : List Po
     }
 
 -- in the form of the code
-module _ (old : Arcs) (marks : List Bool) (ending : List Pos) (numbers slice : List ℕ) (chosen : numbers ≡ kept_numbers 0 marks) (lent : slice ≡ numbers)
+module _ (old : Arcs) (marks : List Bool) (ending : List Pos) (numbers slice : List ℕ) (chosen : numbers ≡ kept_numbers 0 marks) (borrowed : slice ≡ numbers)
     (m : PseudoNodes) (met : Distinct slice → (v : Pos) (a : ArcRef) → Begins old.arcs v slice a → IsVerdict (Has v ending) (Begins old.arcs v slice) (partner_in m) a)
     (runs : List (List ArcRef)) (are : ArePaired marks (partner_in m) → AreRuns marks (partner_in m) runs)
     (ps : List Piece) (ls : List (List ArcRef)) (pieces : ps ≡ map (piece_of_run old.arcs (partner_in m)) runs) (lists : ls ≡ map (list_of_run old.arcs (partner_in m)) runs)
     (t : Arcs) (once : AreSortedOnce list_cmp (map chain_of ps) t.arcs) (loops : AreLoopsOf ps t.loops)
-    (refs those : List ArcRef) (numbered : refs ≡ map (located t.arcs) ps) (lent_refs : those ≡ refs) (n : ℕ) (count : n ≡ length t.arcs)
-    (made : List (List ArcRef)) (put : made ≡ put_all those ls (replicate n [])) (result : RejoinedParts) (is : result ≡ record { arcs = t; pieces = made }) where
-  rejoin_told : (g u : Geometry Pos) → IsLeftBy g u old marks ending → IsRejoinedOf g u old result
-  rejoin_told g u left =
+    (refs those : List ArcRef) (numbered : refs ≡ map (located t.arcs) ps) (borrowed_refs : those ≡ refs) (n : ℕ) (count : n ≡ length t.arcs)
+    (made : List (List ArcRef)) (put : made ≡ put_all those ls (replicate n [])) (result : HealedParts) (is : result ≡ record { arcs = t; pieces = made }) where
+  heal_known : (g u : Geometry Pos) → IsLeftBy g u old marks ending → IsHealedOf g u old result
+  heal_known g u left =
       let met' : AreTold old marks ending m =
-      subst (λ w. Distinct w → (v : Pos) (a : ArcRef) → Begins old.arcs v w a → IsVerdict (Has v ending) (Begins old.arcs v w) (partner_in m) a) (lent ∙ chosen) met (numbers_once 0 marks) in
+      subst (λ w. Distinct w → (v : Pos) (a : ArcRef) → Begins old.arcs v w a → IsVerdict (Has v ending) (Begins old.arcs v w) (partner_in m) a) (borrowed ∙ chosen) met (numbers_once 0 marks) in
       let same : made ≡ put_all (map (located t.arcs) (map (piece_of_run old.arcs (partner_in m)) runs)) (map (list_of_run old.arcs (partner_in m)) runs) (replicate (length t.arcs) []) =
-      put ∙ (λ i. put_all ((lent_refs ∙ numbered ∙ ap (map (located t.arcs)) pieces) i) (lists i) (replicate (count i) [])) in
-      subst (IsRejoinedOf g u old) (sym (is ∙ (λ i. record { arcs = t; pieces = same i })))
-      (rejoins g u old marks ending left m met' runs (are (partners.paired g u old marks ending left m met')) t
+      put ∙ (λ i. put_all ((borrowed_refs ∙ numbered ∙ ap (map (located t.arcs)) pieces) i) (lists i) (replicate (count i) [])) in
+      subst (IsHealedOf g u old) (sym (is ∙ (λ i. record { arcs = t; pieces = same i })))
+      (heals g u old marks ending left m met' runs (are (partners.paired g u old marks ending left m met')) t
       (subst (λ w. AreSortedOnce list_cmp (map chain_of w) t.arcs) pieces once) (subst (λ w. AreLoopsOf w t.loops) pieces loops))
 
-  rejoin_count : length result.pieces ≡ length result.arcs.arcs
-  rejoin_count =
+  heal_count : length result.pieces ≡ length result.arcs.arcs
+  heal_count =
       subst (λ r. length r.pieces ≡ length r.arcs.arcs) (sym is) (ap length put ∙ length_put those ls (replicate n []) ∙ length_same n [] ∙ count)
 
   -- both that heal promises
-  pub rejoin_is : ((g u : Geometry Pos) → IsLeftBy g u old marks ending → IsRejoinedOf g u old result) × (length result.pieces ≡ length result.arcs.arcs)
-  rejoin_is = (rejoin_told, rejoin_count)
+  pub heal_is : ((g u : Geometry Pos) → IsLeftBy g u old marks ending → IsHealedOf g u old result) × (length result.pieces ≡ length result.arcs.arcs)
+  heal_is = (heal_known, heal_count)
 
 -- nothing is left to put
 pub put_none : (refs : List ArcRef) (placed : List (List ArcRef)) → put_all refs [] placed ≡ placed

@@ -5,7 +5,7 @@ use Rattle.std.proofs.lemmas.List.{append-nil}
 use Rattle.theory.specs.ArcNumbers.{ArcRef, StitchTo}
 use Rattle.theory.specs.Geometry.{Geometry, IsSound, IsLineOf, IsRingOf, JunctionOf}
 use Rattle.theory.specs.Refinement.{IsPartOf, IsRefinementOf}
-use Rattle.theory.specs.Healing.{AreStarts, Starts, before_start, from_start, is_start, rejoined, ring_rejoined, skipped, written}
+use Rattle.theory.specs.Healing.{AreStarts, Starts, before_start, from_start, is_start, healed_list, healed_ring_list, skipped, written}
 use Rattle.theory.specs.HealingLaws.{IsLeft}
 use Rattle.theory.specs.Topology.{IsRingList}
 use Rattle.theory.proofs.HealingLists.{starts_once}
@@ -19,18 +19,18 @@ use Rattle.split_heal.proofs.Begun.{starts_are}
 
 -- one used old arc is read
 module _ (s : Starts) (a : ArcRef) (rest : List ArcRef) (before : List ArcRef) where
-  pub skip_one : (skip n : ℕ) → n + 1 ≡ skip → before ++ rejoined s n rest ≡ before ++ rejoined s skip (a ∷ rest)
-  skip_one skip n e = let f : suc n ≡ skip = omega (arith, e) in ap (λ k. before ++ rejoined s k (a ∷ rest)) f
+  pub skip_one : (skip n : ℕ) → n + 1 ≡ skip → before ++ healed_list s n rest ≡ before ++ healed_list s skip (a ∷ rest)
+  skip_one skip n e = let f : suc n ≡ skip = omega (arith, e) in ap (λ k. before ++ healed_list s k (a ∷ rest)) f
 
-  pub none_begins : (skip : ℕ) → skip ≡ 0 → s a ≡ None → before ++ rejoined s 0 rest ≡ before ++ rejoined s skip (a ∷ rest)
+  pub none_begins : (skip : ℕ) → skip ≡ 0 → s a ≡ None → before ++ healed_list s 0 rest ≡ before ++ healed_list s skip (a ∷ rest)
   none_begins skip e f =
-      sym (ap (λ w. before ++ (written w ++ rejoined s (skipped w) rest)) f) ∙ ap (λ k. before ++ rejoined s k (a ∷ rest)) (sym e)
+      sym (ap (λ w. before ++ (written w ++ healed_list s (skipped w) rest)) f) ∙ ap (λ k. before ++ healed_list s k (a ∷ rest)) (sym e)
 
   pub one_begins : (skip : ℕ) (b : ArcRef) (n : ℕ) (now : List ArcRef) → skip ≡ 0 → s a ≡ Some (b, n) → now ≡ before ++ (b ∷ []) →
-      now ++ rejoined s n rest ≡ before ++ rejoined s skip (a ∷ rest)
+      now ++ healed_list s n rest ≡ before ++ healed_list s skip (a ∷ rest)
   one_begins skip b n now e f g =
-      ap (λ w. w ++ rejoined s n rest) g ∙ append_assoc before (b ∷ []) (rejoined s n rest)
-      ∙ sym (ap (λ w. before ++ (written w ++ rejoined s (skipped w) rest)) f) ∙ ap (λ k. before ++ rejoined s k (a ∷ rest)) (sym e)
+      ap (λ w. w ++ healed_list s n rest) g ∙ append_assoc before (b ∷ []) (healed_list s n rest)
+      ∙ sym (ap (λ w. before ++ (written w ++ healed_list s (skipped w) rest)) f) ∙ ap (λ k. before ++ healed_list s k (a ∷ rest)) (sym e)
 
 from_is : (s : Starts) (l : List ArcRef) → from_start s l ≡ drop (first_place s l) l
 from_is s [] = refl
@@ -55,31 +55,31 @@ from_place s used = λ i. from_is s used i ++ before_is s used i
 -- used old arcs are read one after the other
 module _ (s : Starts) where
   pub one_read : (used : List ArcRef) (i : ℕ) (a : ArcRef) (start now next : List ArcRef) (skip left n : ℕ) → i < length used → a ≡ get_or used i a →
-      ((rest : List ArcRef) → next ++ rejoined s n rest ≡ now ++ rejoined s left (a ∷ rest)) →
-      ((rest : List ArcRef) → now ++ rejoined s left (drop i used ++ rest) ≡ start ++ rejoined s skip (used ++ rest)) →
-      (rest : List ArcRef) → next ++ rejoined s n (drop (i + 1) used ++ rest) ≡ start ++ rejoined s skip (used ++ rest)
+      ((rest : List ArcRef) → next ++ healed_list s n rest ≡ now ++ healed_list s left (a ∷ rest)) →
+      ((rest : List ArcRef) → now ++ healed_list s left (drop i used ++ rest) ≡ start ++ healed_list s skip (used ++ rest)) →
+      (rest : List ArcRef) → next ++ healed_list s n (drop (i + 1) used ++ rest) ≡ start ++ healed_list s skip (used ++ rest)
   one_read used i a start now next skip left n h e f g rest =
       let k : suc i ≡ i + 1 = omega arith in
       let there : drop i used ≡ a ∷ drop (i + 1) used = drop-cons used i a h ∙ (λ j. sym e j ∷ drop (k j) used) in
-      f (drop (i + 1) used ++ rest) ∙ ap (λ l. now ++ rejoined s left (l ++ rest)) (sym there) ∙ g rest
+      f (drop (i + 1) used ++ rest) ∙ ap (λ l. now ++ healed_list s left (l ++ rest)) (sym there) ∙ g rest
 
   pub all_read : (used others : List ArcRef) (start now : List ArcRef) (skip left : ℕ) → others ≡ [] →
-      ((rest : List ArcRef) → now ++ rejoined s left (others ++ rest) ≡ start ++ rejoined s skip (used ++ rest)) →
-      (rest : List ArcRef) → now ++ rejoined s left rest ≡ start ++ rejoined s skip (used ++ rest)
-  all_read used others start now skip left e g rest = ap (λ l. now ++ rejoined s left (l ++ rest)) (sym e) ∙ g rest
+      ((rest : List ArcRef) → now ++ healed_list s left (others ++ rest) ≡ start ++ healed_list s skip (used ++ rest)) →
+      (rest : List ArcRef) → now ++ healed_list s left rest ≡ start ++ healed_list s skip (used ++ rest)
+  all_read used others start now skip left e g rest = ap (λ l. now ++ healed_list s left (l ++ rest)) (sym e) ∙ g rest
 
-  none_read : (n : ℕ) → rejoined s n [] ≡ []
+  none_read : (n : ℕ) → healed_list s n [] ≡ []
   none_read n = refl
 
-  pub line_read : (used none refs : List ArcRef) (n : ℕ) → none ≡ [] → ((rest : List ArcRef) → refs ++ rejoined s n rest ≡ none ++ rejoined s 0 (used ++ rest)) → refs ≡ rejoined s 0 used
-  line_read used none refs n e f = sym (append-nil refs) ∙ ap (λ l. refs ++ l) (sym (none_read n)) ∙ f [] ∙ (λ i. e i ++ rejoined s 0 (append-nil used i))
+  pub line_read : (used none refs : List ArcRef) (n : ℕ) → none ≡ [] → ((rest : List ArcRef) → refs ++ healed_list s n rest ≡ none ++ healed_list s 0 (used ++ rest)) → refs ≡ healed_list s 0 used
+  line_read used none refs n e f = sym (append-nil refs) ∙ ap (λ l. refs ++ l) (sym (none_read n)) ∙ f [] ∙ (λ i. e i ++ healed_list s 0 (append-nil used i))
 
   pub round_read : (used before others none first refs : List ArcRef) (n m : ℕ) → before ≡ take (first_place s used) used → others ≡ drop (first_place s used) used → none ≡ [] →
-      ((rest : List ArcRef) → first ++ rejoined s n rest ≡ none ++ rejoined s 0 (others ++ rest)) →
-      ((rest : List ArcRef) → refs ++ rejoined s m rest ≡ first ++ rejoined s n (before ++ rest)) → refs ≡ rejoined s 0 (from_start s used ++ before_start s used)
+      ((rest : List ArcRef) → first ++ healed_list s n rest ≡ none ++ healed_list s 0 (others ++ rest)) →
+      ((rest : List ArcRef) → refs ++ healed_list s m rest ≡ first ++ healed_list s n (before ++ rest)) → refs ≡ healed_list s 0 (from_start s used ++ before_start s used)
   round_read used before others none first refs n m b o e f g =
-      sym (append-nil refs) ∙ ap (λ l. refs ++ l) (sym (none_read m)) ∙ g [] ∙ ap (λ l. first ++ rejoined s n l) (append-nil before)
-      ∙ f before ∙ (λ i. e i ++ rejoined s 0 (o i ++ b i)) ∙ ap (rejoined s 0) (sym (from_place s used))
+      sym (append-nil refs) ∙ ap (λ l. refs ++ l) (sym (none_read m)) ∙ g [] ∙ ap (λ l. first ++ healed_list s n l) (append-nil before)
+      ∙ f before ∙ (λ i. e i ++ healed_list s 0 (o i ++ b i)) ∙ ap (healed_list s 0) (sym (from_place s used))
 
 -- the laws of theory, for these tables
 module _ (arcs : List (List Pos)) (pieces : List (List ArcRef)) (used list : List ArcRef) where
@@ -90,21 +90,21 @@ module _ (arcs : List (List Pos)) (pieces : List (List ArcRef)) (used list : Lis
     are : AreStarts pieces (starts_by pieces)
     are = starts_are pieces (starts_once position_cmp position_total position_same position_dec u su old ref.new g part arcs pieces ref)
 
-    line_at : list ≡ rejoined (starts_by pieces) 0 used → (l : List Pos) → IsLineOf g l → StitchTo old used l → StitchTo arcs list l
+    line_at : list ≡ healed_list (starts_by pieces) 0 used → (l : List Pos) → IsLineOf g l → StitchTo old used l → StitchTo arcs list l
     line_at e l h k =
         subst (λ w. StitchTo arcs w l) (sym e) (((new_lists_along_old_ones position_cmp g u old left arcs pieces ref).1 (starts_by pieces) are).0 l used h k)
 
-    ring_at : list ≡ ring_rejoined position_cmp arcs (starts_by pieces) used → (r : List Pos) → IsRingOf g r → IsRingList position_cmp (JunctionOf u) old r used →
+    ring_at : list ≡ healed_ring_list position_cmp arcs (starts_by pieces) used → (r : List Pos) → IsRingOf g r → IsRingList position_cmp (JunctionOf u) old r used →
         IsRingList position_cmp (JunctionOf g) arcs r list
     ring_at e r h k =
         subst (λ w. IsRingList position_cmp (JunctionOf g) arcs r w) (sym e)
         (((new_lists_along_old_ones position_cmp g u old left arcs pieces ref).1 (starts_by pieces) are).1 r used h k)
 
-  pub line_rejoined : list ≡ rejoined (starts_by pieces) 0 used → (g u : Geometry Pos) (old : List (List Pos)) (l : List Pos) → IsSound u → IsPartOf g u →
+  pub healed_line_list : list ≡ healed_list (starts_by pieces) 0 used → (g u : Geometry Pos) (old : List (List Pos)) (l : List Pos) → IsSound u → IsPartOf g u →
       IsRefinementOf position_cmp g u arcs old pieces → IsLineOf g l → StitchTo old used l → StitchTo arcs list l
-  line_rejoined e g u old l su part ref h k = line_at g u old su part ref e l h k
+  healed_line_list e g u old l su part ref h k = line_at g u old su part ref e l h k
 
-  pub ring_told : list ≡ ring_rejoined position_cmp arcs (starts_by pieces) used → (g u : Geometry Pos) (old : List (List Pos)) (r : List Pos) → IsSound u → IsPartOf g u →
+  pub ring_told : list ≡ healed_ring_list position_cmp arcs (starts_by pieces) used → (g u : Geometry Pos) (old : List (List Pos)) (r : List Pos) → IsSound u → IsPartOf g u →
       IsRefinementOf position_cmp g u arcs old pieces → IsRingOf g r → IsRingList position_cmp (JunctionOf u) old r used →
       IsRingList position_cmp (JunctionOf g) arcs r list
   ring_told e g u old r su part ref h k = ring_at g u old su part ref e r h k

@@ -15,8 +15,8 @@ use Rattle.lines.specs.Positions.{position_total, position_same}
 use Rattle.lines.proofs.Positions.{position_dec}
 use Rattle.arcs.specs.Arcs.{Arcs}
 use Rattle.split_heal.specs.HealingLaws.{KeptStandOnce, OnePieces, OthersStandNowhere, StandsOnce}
-use Rattle.split_heal.specs.HealedParts.{RejoinedParts}
-use Rattle.split_heal.specs.Healing.{IsRejoinedOf}
+use Rattle.split_heal.specs.HealedParts.{HealedParts}
+use Rattle.split_heal.specs.Healing.{IsHealedOf}
 
 -- each vertex of a list of two or more has a neighbour
 beside_some : (x : Pos) (r : List Pos) → 1 ≤ length r → (v : Pos) → Has v (x ∷ r) → (w : Pos) × Beside v w (x ∷ r)
@@ -38,7 +38,7 @@ paired R (z ∷ xs) [] p i x e = absurd p
 paired R (z ∷ xs) (y ∷ ys) p zero x e = let k : Some z ≡ Some x = e in (y, refl, subst (λ w. R w y) (let m : z ≡ x = cc in m) p.0)
 paired R (z ∷ xs) (y ∷ ys) p (suc i) x e = paired R xs ys p.1 i x e
 
-module _ (g u : Geometry Pos) (su : IsSound u) (part : IsPartOf g u) (old : Arcs) (r : RejoinedParts) (is : IsRejoinedOf g u old r) where
+module _ (g u : Geometry Pos) (su : IsSound u) (part : IsPartOf g u) (old : Arcs) (r : HealedParts) (is : IsHealedOf g u old r) where
   laws : RemovalLaws g u old.arcs r.pieces
   laws = pieces_of_what_is_left position_cmp g u order (part_sound g u su part) su part r.arcs.arcs old.arcs r.pieces is.refined
 

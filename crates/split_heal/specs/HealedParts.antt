@@ -4,6 +4,6 @@ use Rattle.theory.specs.ArcNumbers.{ArcRef}
 use Rattle.arcs.specs.Arcs.{Arcs}
 
 -- the new table, and for each of its arcs the old ones that it was joined of
-pub record RejoinedParts : Type 0 where
+pub record HealedParts : Type 0 where
   pub arcs : Arcs
   pub pieces : List (List ArcRef)

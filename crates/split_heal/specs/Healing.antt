@@ -8,7 +8,7 @@ use Rattle.grid.specs.declared.pos.Pos.{Pos}
 use Rattle.lines.specs.Turned.{position_cmp}
 use Rattle.arcs.specs.Arcs.{Arcs}
 use Rattle.arcs.specs.Table.{IsTableOf}
-use Rattle.split_heal.specs.HealedParts.{RejoinedParts}
+use Rattle.split_heal.specs.HealedParts.{HealedParts}
 
 -- g is a part of the map u that the old table is of: the marks say which old arcs it uses, and the ends where its lines begin and end
 pub record IsLeftBy (g u : Geometry Pos) (old : Arcs) (marks : List Bool) (ending : List Pos) : Type 0 where
@@ -19,6 +19,6 @@ pub record IsLeftBy (g u : Geometry Pos) (old : Arcs) (marks : List Bool) (endin
   pub ends : (v : Pos) → Has v ending ↔ IsLineEnd g old.arcs v
 
 -- the new table is that of g, and its arcs are cut into old ones
-pub record IsRejoinedOf (g u : Geometry Pos) (old : Arcs) (r : RejoinedParts) : Type 0 where
+pub record IsHealedOf (g u : Geometry Pos) (old : Arcs) (r : HealedParts) : Type 0 where
   pub table : IsTableOf g r.arcs
   pub refined : IsRefinementOf position_cmp g u r.arcs.arcs old.arcs r.pieces

@@ -7,13 +7,13 @@ use Rattle.theory.specs.Refinement.{ArePiecesOfArc, IsPartOf, pieces_at}
 use Rattle.grid.specs.declared.pos.Pos.{Pos}
 use Rattle.lines.specs.Turned.{position_cmp}
 use Rattle.arcs.specs.Arcs.{Arcs}
-use Rattle.split_heal.specs.HealedParts.{RejoinedParts}
-use Rattle.split_heal.specs.Healing.{IsRejoinedOf}
+use Rattle.split_heal.specs.HealedParts.{HealedParts}
+use Rattle.split_heal.specs.Healing.{IsHealedOf}
 
 -- the pieces of a new arc are the only old arcs that stitch to it, or, where it is free, to it turned as a ring
 abbrev pub OnePieces : Type 0
 OnePieces =
-    (g u : Geometry Pos) → IsSound u → IsPartOf g u → (old : Arcs) (r : RejoinedParts) → IsRejoinedOf g u old r →
+    (g u : Geometry Pos) → IsSound u → IsPartOf g u → (old : Arcs) (r : HealedParts) → IsHealedOf g u old r →
     (i : ℕ) (c : List Pos) (used : List ArcRef) → slice_get r.arcs.arcs i ≡ Some c →
     (slice_get r.pieces i ≡ Some used) ↔ ArePiecesOfArc position_cmp (JunctionOf g) (JunctionOf u) old.arcs c used
 
@@ -28,11 +28,11 @@ pub record StandsOnce (g : Geometry Pos) (pieces : List (List ArcRef)) (k : ℕ)
 -- an old arc that has a segment of what is left is at one place of one list, and all its segments stay
 abbrev pub KeptStandOnce : Type 0
 KeptStandOnce =
-    (g u : Geometry Pos) → IsSound u → IsPartOf g u → (old : Arcs) (r : RejoinedParts) → IsRejoinedOf g u old r →
+    (g u : Geometry Pos) → IsSound u → IsPartOf g u → (old : Arcs) (r : HealedParts) → IsHealedOf g u old r →
     (k : ℕ) (d : List Pos) (v w : Pos) → slice_get old.arcs k ≡ Some d → Beside v w d → SegmentOf g v w → StandsOnce g r.pieces k d
 
 -- one that has none is in no list
 abbrev pub OthersStandNowhere : Type 0
 OthersStandNowhere =
-    (g u : Geometry Pos) → IsSound u → IsPartOf g u → (old : Arcs) (r : RejoinedParts) → IsRejoinedOf g u old r →
+    (g u : Geometry Pos) → IsSound u → IsPartOf g u → (old : Arcs) (r : HealedParts) → IsHealedOf g u old r →
     (k : ℕ) (d : List Pos) → slice_get old.arcs k ≡ Some d → ((v w : Pos) → Beside v w d → ¬ SegmentOf g v w) → (i : ℕ) → ¬ Uses k (pieces_at r.pieces i)

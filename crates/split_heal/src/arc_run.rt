@@ -76,7 +76,7 @@ impl ArcRun {
         }
     }
 
-    /// The same way, gone the other way.
+    /// The used arcs against their order, each in the other direction.
     pub(crate) fn backwards(self, alloc: Global) -> Result<ArcRun, AllocError>
         ensures { IfOk result (λ r. r ≡ backwards self) }
     {

@@ -8,7 +8,7 @@ ghost use Rattle.theory.specs.ArcNumbers as numbers;
 ghost use Rattle.theory.specs.ArcNumbers.{StitchTo};
 ghost use Rattle.theory.specs.Geometry.{Geometry, IsSound, IsLineOf, IsRingOf, JunctionOf};
 ghost use Rattle.theory.specs.Refinement.{IsPartOf, IsRefinementOf};
-ghost use Rattle.theory.specs.Healing.{before_start, from_start, rejoined, ring_rejoined};
+ghost use Rattle.theory.specs.Healing.{before_start, from_start, healed_list, healed_ring_list};
 ghost use Rattle.theory.specs.Topology.{IsRingList};
 
 use crate::arc_run::ArcRun;
@@ -28,10 +28,10 @@ pub struct HealedArcs {
 }
 
 impl Model for HealedArcs {
-    ghost use Rattle.split_heal.specs.HealedParts.{RejoinedParts};
+    ghost use Rattle.split_heal.specs.HealedParts.{HealedParts};
     ghost use Rattle.split_heal.specs.Starts.{AreNotedIn};
 
-    ghost Value = { RejoinedParts };
+    ghost Value = { HealedParts };
 
     ghost view = { λ a. record { arcs = a.arcs; pieces = a.pieces.items } };
 
@@ -85,7 +85,7 @@ impl HealedArcs {
     /// Reads one used old arc: it is skipped, or the new arc that it begins is added. Answers how many
     /// are to be skipped behind it.
     fn read(&self, refs: &mut Vec<ArcRef>, skip: usize, used: &ArcRef) -> Result<usize, AllocError>
-        ensures { IfOk result (λ n. (rest : List numbers.ArcRef) → refs.new.items ++ rejoined (starts_by self.now.pieces) n rest ≡ refs.old.items ++ rejoined (starts_by self.now.pieces) skip (used.now ∷ rest)) }
+        ensures { IfOk result (λ n. (rest : List numbers.ArcRef) → refs.new.items ++ healed_list (starts_by self.now.pieces) n rest ≡ refs.old.items ++ healed_list (starts_by self.now.pieces) skip (used.now ∷ rest)) }
     {
         if skip > 0 {
             return Ok(skip - 1);
@@ -109,7 +109,7 @@ impl HealedArcs {
         skip: usize,
         used: &[ArcRef],
     ) -> Result<usize, AllocError>
-        ensures { IfOk result (λ n. (rest : List numbers.ArcRef) → refs.new.items ++ rejoined (starts_by self.now.pieces) n rest ≡ refs.old.items ++ rejoined (starts_by self.now.pieces) skip (used.now ++ rest)) }
+        ensures { IfOk result (λ n. (rest : List numbers.ArcRef) → refs.new.items ++ healed_list (starts_by self.now.pieces) n rest ≡ refs.old.items ++ healed_list (starts_by self.now.pieces) skip (used.now ++ rest)) }
     {
         let mut left = skip;
         for arc in used {
@@ -123,7 +123,7 @@ impl HealedArcs {
     /// # Errors
     /// Where memory is refused.
     pub fn line(&self, alloc: Global, used: &[ArcRef]) -> Result<Vec<ArcRef>, OutOfMemory>
-        ensures computed { IfOk result (λ v. v.items ≡ rejoined (starts_by self.now.pieces) 0 used.now) }
+        ensures computed { IfOk result (λ v. v.items ≡ healed_list (starts_by self.now.pieces) 0 used.now) }
         ensures stitches { IfOk result (λ v. (g u : Geometry Pos) (old : List (List Pos)) (l : List Pos) → IsSound u → IsPartOf g u → IsRefinementOf position_cmp g u self.now.arcs.arcs old self.now.pieces → IsLineOf g l → StitchTo old used.now l → StitchTo self.now.arcs.arcs v.items l) }
     {
         let mut refs = Vec::with_capacity(alloc, used.len())?;
@@ -147,7 +147,7 @@ impl HealedArcs {
     /// What a ring's list is before it is turned: read from the first used old arc that begins a new one
     /// on, and then along those before it.
     fn read_round(&self, alloc: Global, used: &[ArcRef]) -> Result<Vec<ArcRef>, AllocError>
-        ensures { IfOk result (λ v. v.items ≡ rejoined (starts_by self.now.pieces) 0 (from_start (starts_by self.now.pieces) used.now ++ before_start (starts_by self.now.pieces) used.now)) }
+        ensures { IfOk result (λ v. v.items ≡ healed_list (starts_by self.now.pieces) 0 (from_start (starts_by self.now.pieces) used.now ++ before_start (starts_by self.now.pieces) used.now)) }
     {
         let (before, others) = used.split_at(self.first_start(used));
         let mut refs = Vec::with_capacity(alloc, used.len())?;
@@ -161,7 +161,7 @@ impl HealedArcs {
     /// # Errors
     /// Where memory is refused.
     pub fn ring(&self, alloc: Global, used: &[ArcRef]) -> Result<Vec<ArcRef>, OutOfMemory>
-        ensures computed { IfOk result (λ v. v.items ≡ ring_rejoined position_cmp self.now.arcs.arcs (starts_by self.now.pieces) used.now) }
+        ensures computed { IfOk result (λ v. v.items ≡ healed_ring_list position_cmp self.now.arcs.arcs (starts_by self.now.pieces) used.now) }
         ensures stitches { IfOk result (λ v. (g u : Geometry Pos) (old : List (List Pos)) (r : List Pos) → IsSound u → IsPartOf g u → IsRefinementOf position_cmp g u self.now.arcs.arcs old self.now.pieces → IsRingOf g r → IsRingList position_cmp (JunctionOf u) old r used.now → IsRingList position_cmp (JunctionOf g) self.now.arcs.arcs r v.items) }
     {
         let mut refs = self.read_round(alloc, used)?;

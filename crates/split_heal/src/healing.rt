@@ -5,7 +5,7 @@ ghost use Rattle.arcs.specs.Table.{AreLoopsOf, located};
 ghost use Rattle.grid.specs.declared.pos.Pos.{Pos};
 ghost use Rattle.lines.specs.Turned.{list_cmp};
 ghost use Rattle.split_heal.specs.HealedArcs.{put_all};
-ghost use Rattle.split_heal.specs.Healing.{IsLeftBy, IsRejoinedOf};
+ghost use Rattle.split_heal.specs.Healing.{IsLeftBy, IsHealedOf};
 ghost use Rattle.std.specs.Prelude.{◌≡◌, [], IfOk, length, map, replicate};
 ghost use Rattle.theory.specs.Arcs.{AreSortedOnce};
 ghost use Rattle.theory.specs.Geometry.{Geometry};
@@ -44,7 +44,7 @@ pub fn heal(
     kept: &[bool],
     ends: &[Pos],
 ) -> Result<HealedArcs, OutOfMemory>
-    ensures refined { IfOk result (λ r. (g u : Geometry Pos) → IsLeftBy g u old.now kept.now ends.now → IsRejoinedOf g u old.now r) }
+    ensures refined { IfOk result (λ r. (g u : Geometry Pos) → IsLeftBy g u old.now kept.now ends.now → IsHealedOf g u old.now r) }
     ensures pieces { IfOk result (λ r. length r.pieces ≡ length r.arcs.arcs) }
 {
     let chosen = numbers_of(alloc, kept)?;

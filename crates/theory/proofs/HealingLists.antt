@@ -24,7 +24,7 @@ use Rattle.theory.specs.Geometry.{Geometry, IsChainOf, IsLineOf, IsRingOf, IsSou
 use Rattle.theory.specs.LinesAndRings.{IsRotation, closed}
 use Rattle.theory.specs.Lists.{Has, last_of}
 use Rattle.theory.specs.Refinement.{ArePiecesOfArc, IsPartOf, IsRefinementOf, RefinementLaws, pieces_at, pieces_of_used, replaced, turned_used}
-use Rattle.theory.specs.Healing.{AreStarts, Starts, before_start, from_start, is_start, rejoined, rejoined_body, ring_rejoined, skipped, written}
+use Rattle.theory.specs.Healing.{AreStarts, Starts, before_start, from_start, is_start, healed_list, healed_body, healed_ring_list, skipped, written}
 use Rattle.theory.specs.Topology.{Body, IsFormOf, IsRingList, Shape, lines_in, rings_in}
 use Rattle.theory.specs.TopologyFunction.{line_refs, ring_refs}
 
@@ -104,7 +104,7 @@ replaced_at pieces (b ∷ us) s a t e =
     ]
 
 module _ (starts : Starts) where
-  skip_all : (more old : List ArcRef) → rejoined starts (length more) (more ++ old) ≡ rejoined starts zero old
+  skip_all : (more old : List ArcRef) → healed_list starts (length more) (more ++ old) ≡ healed_list starts zero old
   skip_all [] old = refl
   skip_all (a ∷ more) old = skip_all more old
 
@@ -139,14 +139,14 @@ module _ (starts : Starts) where
 
   module _ (pieces : List (List ArcRef)) (are : AreStarts pieces starts) where
     -- along the pieces of used arcs it writes the used arcs
-    pub rejoined_replaced : (us : List ArcRef) → AllFull pieces us → rejoined starts zero (replaced pieces us) ≡ us
-    rejoined_replaced [] f = refl
-    rejoined_replaced (b ∷ us) f =
+    pub healed_replaced : (us : List ArcRef) → AllFull pieces us → healed_list starts zero (replaced pieces us) ≡ us
+    healed_replaced [] f = refl
+    healed_replaced (b ∷ us) f =
         let h = used_head b.reversed (pieces_at pieces b.arc) f.0 in
         let n : starts h.0 ≡ Some (b, length h.1) = are.noted h.0 b h.1 h.2 in
-        ap (λ w. rejoined starts zero (w ++ replaced pieces us)) h.2
-        ∙ ap (λ w. written w ++ rejoined starts (skipped w) (h.1 ++ replaced pieces us)) n
-        ∙ ap (λ w. b ∷ w) (skip_all h.1 (replaced pieces us) ∙ rejoined_replaced us f.1)
+        ap (λ w. healed_list starts zero (w ++ replaced pieces us)) h.2
+        ∙ ap (λ w. written w ++ healed_list starts (skipped w) (h.1 ++ replaced pieces us)) n
+        ∙ ap (λ w. b ∷ w) (skip_all h.1 (replaced pieces us) ∙ healed_replaced us f.1)
 
 module _ {V : Type 0} (cmp : V → V → Ordering) (o : IsTotalOrder cmp) (same : IsAntisymmetric cmp) (dec : (a b : V) → Dec (a ≡ b))
     (u : Geometry V) (su : IsSound u) (table : List (List V)) (all : AreArcsOf cmp u table)
@@ -236,16 +236,16 @@ module _ {V : Type 0} (cmp : V → V → Ordering) (o : IsTotalOrder cmp) (same 
 
   module _ (starts : Starts) (are : AreStarts pieces starts) where
     -- the new list of a line
-    pub new_line : (l : List V) (old : List ArcRef) → IsLineOf g l → StitchTo table old l → StitchTo arcs (rejoined starts zero old) l
+    pub new_line : (l : List V) (old : List ArcRef) → IsLineOf g l → StitchTo table old l → StitchTo arcs (healed_list starts zero old) l
     new_line l old i st =
         let new : List ArcRef = line_refs cmp g l in
         let sn : StitchTo arcs new l = line_list cmp o same dec g sg arcs ref.old g whole l i in
         let e : replaced pieces new ≡ old = old_list cmp o same dec u su table all g sg part arcs pieces ref l new old i sn st in
-        subst (λ w. StitchTo arcs w l) (sym (ap (rejoined starts zero) (sym e) ∙ rejoined_replaced starts pieces are new (all_full_to new l sn))) sn
+        subst (λ w. StitchTo arcs w l) (sym (ap (healed_list starts zero) (sym e) ∙ healed_replaced starts pieces are new (all_full_to new l sn))) sn
 
     -- the new list of a ring
     pub new_ring : (r : List V) (old : List ArcRef) → IsRingOf g r → IsRingList cmp (JunctionOf u) table r old →
-        IsRingList cmp (JunctionOf g) arcs r (ring_rejoined cmp arcs starts old)
+        IsRingList cmp (JunctionOf g) arcs r (healed_ring_list cmp arcs starts old)
     new_ring r old i st =
         let new : List ArcRef = ring_refs cmp g r in
         let sn : IsRingList cmp (JunctionOf g) arcs r new = ring_list cmp o same dec g sg arcs ref.old g whole r i in
@@ -269,8 +269,8 @@ module _ {V : Type 0} (cmp : V → V → Ordering) (o : IsTotalOrder cmp) (same 
         ∙ ap (λ w. p.0 ∷ w) (c.3 ∙ ap (λ w. w ++ c.0) d.8 ∙ ap (λ w. (d.4 ++ replaced pieces d.2) ++ w) s)
         ∙ ap (λ w. (w ++ replaced pieces d.2) ++ replaced pieces d.0) (sym head)
         ∙ sym (replaced_join pieces b d.0) in
-        let join : rejoined starts zero (from_start starts old ++ before_start starts old) ≡ b ++ d.0 =
-        ap (rejoined starts zero) rot ∙ rejoined_replaced starts pieces are (b ++ d.0) (full_join b d.0 fulls.1 fulls.0) in
+        let join : healed_list starts zero (from_start starts old ++ before_start starts old) ≡ b ++ d.0 =
+        ap (healed_list starts zero) rot ∙ healed_replaced starts pieces are (b ++ d.0) (full_join b d.0 fulls.1 fulls.0) in
         let is : IsRingList cmp (JunctionOf g) arcs r (d.0 ++ b) = subst (IsRingList cmp (JunctionOf g) arcs r) d.5 sn in
         subst (IsRingList cmp (JunctionOf g) arcs r)
         (sym (turned_used_is cmp o same dec g sg arcs ref.old r i b d.0 is) ∙ ap (λ w. turned_used cmp arcs w) (sym join)) is
@@ -285,8 +285,8 @@ module _ {V : Type 0} (cmp : V → V → Ordering) (o : IsTotalOrder cmp) (same 
     -- the geometry of a feature that is left
     pub new_form : (f : Shape V) (h : Body V) → ((l : List V) → Has l (lines_in f) → IsLineOf g l) → ((r : List V) → Has r (rings_in f) → IsRingOf g r) →
         IsFormOf (λ l used. StitchTo table used l) (IsRingList cmp (JunctionOf u) table) f h →
-        IsFormOf (λ l used. StitchTo arcs used l) (IsRingList cmp (JunctionOf g) arcs) f (rejoined_body cmp arcs starts h)
+        IsFormOf (λ l used. StitchTo arcs used l) (IsRingList cmp (JunctionOf g) arcs) f (healed_body cmp arcs starts h)
     new_form f h lines rings is =
         form_replaced (λ l used. StitchTo table used l) (IsRingList cmp (JunctionOf u) table) (λ l used. StitchTo arcs used l) (IsRingList cmp (JunctionOf g) arcs)
-        (rejoined starts zero) (ring_rejoined cmp arcs starts) f h is
+        (healed_list starts zero) (healed_ring_list cmp arcs starts) f h is
         (λ l old i st. new_line l old (lines l i) st) (λ r old i st. new_ring r old (rings r i) st)

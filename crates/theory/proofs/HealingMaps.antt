@@ -13,7 +13,7 @@ use Rattle.theory.specs.Arcs.{AreArcsOf}
 use Rattle.theory.specs.Geometry.{IsSound, JunctionOf}
 use Rattle.theory.specs.Lists.{Has, Pairwise, gathered}
 use Rattle.theory.specs.Refinement.{IsPartOf}
-use Rattle.theory.specs.Healing.{AreJoined, AreStarts, EndsInLayers, IsKept, IsLess, IsLineEnd, Starts, less, marked, rejoined_layer}
+use Rattle.theory.specs.Healing.{AreJoined, AreStarts, EndsInLayers, IsKept, IsLess, IsLineEnd, Starts, less, marked, healed_layer}
 use Rattle.theory.specs.Validity.{InLayers}
 use Rattle.theory.specs.Topology.{Body, IsFormOf, IsGeometryOf, IsLayerOf, IsRingList, IsTopologyOf, Item, Layer, Map, Shape, forms_of, geometry_of, lines_in, positions_of, rings_in}
 
@@ -161,11 +161,11 @@ module _ {V : Type 0} (cmp : V → V → Ordering) (o : IsTotalOrder cmp) (same 
   -- with the joined arcs, and the lists along them, it is the topology of what is left
   pub removed_topology : {G X : Type 0} (box_of : G → List V → Option X) (on : G) (arcs : List (List V)) (pieces : List (List ArcRef)) (starts : Starts) →
       AreJoined cmp (geometry_of n) (geometry_of m) table arcs pieces → AreStarts pieces starts →
-      IsTopologyOf cmp box_of on n (record { grid = on; arcs = arcs; layers = map (rejoined_layer cmp arcs starts) olds; bbox = box_of on (positions_of n) })
+      IsTopologyOf cmp box_of on n (record { grid = on; arcs = arcs; layers = map (healed_layer cmp arcs starts) olds; bbox = box_of on (positions_of n) })
   removed_topology box_of on arcs pieces starts joined st = record {
     grid = refl;
     arcs = joined_arcs cmp o same dec (geometry_of m) sm table all (geometry_of n) part arcs pieces joined;
-    layers = pairwise_mapped (IsLayerOf cmp (JunctionOf (geometry_of m)) table) (IsLayerOf cmp (JunctionOf (geometry_of n)) arcs) (rejoined_layer cmp arcs starts) n olds
+    layers = pairwise_mapped (IsLayerOf cmp (JunctionOf (geometry_of m)) table) (IsLayerOf cmp (JunctionOf (geometry_of n)) arcs) (healed_layer cmp arcs starts) n olds
         (λ l k h is. record {
           name = is.name;
           items = pairwise_mapped (IsGeometryOf cmp (JunctionOf (geometry_of m)) table) (IsGeometryOf cmp (JunctionOf (geometry_of n)) arcs) _ l.items k.items

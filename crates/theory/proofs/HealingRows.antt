@@ -4,7 +4,7 @@ use Rattle.std.specs.Prelude.{map, negsuc}
 use Rattle.theory.proofs.WorkedRows.{Position, ahead, by_position, first, reversed, second, third}
 use Rattle.theory.specs.ArcNumbers.{ArcRef, index_of}
 use Rattle.theory.specs.Geometry.{Geometry}
-use Rattle.theory.specs.Healing.{Starts, ring_rejoined}
+use Rattle.theory.specs.Healing.{Starts, healed_ring_list}
 use Rattle.theory.specs.TopologyFunction.{arcs_of, ring_refs}
 
 abbrev rings : List (List Position) → Geometry Position
@@ -20,7 +20,7 @@ at (n ∷ notes) a = cond (int_eq (index_of n.0) (index_of a)) (Some n.1) (at no
 
 -- the new list of a ring, from its old one
 abbrev new_list : Geometry Position → List (ArcRef × (ArcRef × ℕ)) → List Position → List ℤ
-new_list g notes r = map index_of (ring_rejoined by_position (arcs_of by_position g) (at notes) (ring_refs by_position whole r))
+new_list g notes r = map index_of (healed_ring_list by_position (arcs_of by_position g) (at notes) (ring_refs by_position whole r))
 
 abbrev list : Geometry Position → List Position → List ℤ
 list g r = map index_of (ring_refs by_position g r)

@@ -17,10 +17,10 @@ use Rattle.theory.specs.Geometry.{AtMost, Geometry, IsChainOf, IsLineOf, IsRingO
 use Rattle.theory.specs.Junction.{SameVisit, Visits, pair}
 use Rattle.theory.specs.LinesAndRings.{IsLine, IsRing, closed}
 use Rattle.theory.specs.Lists.{Beside, Has, Passes}
-use Rattle.theory.specs.Validity.{ArcsStand}
+use Rattle.theory.specs.Validity.{AreValidArcs}
 
 module _ {V : Type 0} (cmp : V → V → Ordering) (o : IsTotalOrder cmp) (same : IsAntisymmetric cmp) (dec : (a b : V) → Dec (a ≡ b))
-    (arcs : List (List V)) (a : Geometry V) (st : ArcsStand cmp arcs a) where
+    (arcs : List (List V)) (a : Geometry V) (st : AreValidArcs cmp arcs a) where
   not_back : (c : List V) → Has c arcs → ¬ (c ≡ reverse c)
   not_back c h e = less_self (slice_cmp cmp) (lists_total o) (slice_cmp-IsAntisymmetric same) c (subst (λ w. slice_cmp cmp c w ≡ Less) (sym e) (st.forward c h))
 

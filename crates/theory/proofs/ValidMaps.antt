@@ -28,7 +28,7 @@ use Rattle.theory.specs.LinesAndRings.{IsLine, IsRing, IsRotation, Trail, around
 use Rattle.theory.specs.Lists.{Beside, EndOf, NoTurnBack, Steps, front_of, last_of}
 use Rattle.theory.specs.Refinement.{Alike}
 use Rattle.theory.specs.Segments.{OnThree}
-use Rattle.theory.specs.Validity.{BeginsAt, EndsList, Stands, ThreeBegin}
+use Rattle.theory.specs.Validity.{BeginsAt, EndsList, AreValidFor, ThreeBegin}
 
 -- two trails with no segment in common, the one behind the other
 Trail-join : {V : Type 0} (x : V) (q s : List V) → Trail (x ∷ q) → Trail (last_of x q ∷ s) →
@@ -175,7 +175,7 @@ module _ {V : Type 0} (cmp : V → V → Ordering) (o : IsTotalOrder cmp) (same 
       (segments_once cmp o same dec a sa arcs all).no_other u v k.2 (get_has arcs k.0 k.2 k.3) (same_beside u v p.0 k.2 k.4 p.2)
 
 module _ {V : Type 0} (cmp : V → V → Ordering) (o : IsTotalOrder cmp) (same : IsAntisymmetric cmp) (dec : (a b : V) → Dec (a ≡ b))
-    (arcs : List (List V)) (a g : Geometry V) (st : Stands cmp arcs a g) where
+    (arcs : List (List V)) (a g : Geometry V) (st : AreValidFor cmp arcs a g) where
   sa : IsSound a
   sa = sound cmp o same dec arcs a st.alone
 

@@ -17,7 +17,7 @@ use Rattle.theory.specs.Geometry.{AtMost, Geometry, IsChainOf, IsLineOf, IsRingO
 use Rattle.theory.specs.Junction.{SameVisit, end, pair}
 use Rattle.theory.specs.LinesAndRings.{around, closed}
 use Rattle.theory.specs.Lists.{Beside, Between, Distinct, EndOf, Has, Passes, Steps, front_of, gathered}
-use Rattle.theory.specs.Validity.{ArcsApart, ArcsStand, inner_of, insides}
+use Rattle.theory.specs.Validity.{ArcsAreNoded, AreValidArcs, inner_of, insides}
 
 Distinct-right : {V : Type 0} (s t : List V) → Distinct (s ++ t) → Distinct t
 Distinct-right [] t d = d
@@ -92,7 +92,7 @@ ring_distinct (x ∷ []) d = tt
 ring_distinct (x ∷ (y ∷ q)) d = subst Distinct (sym (inner_around x y q)) (Distinct-rotate (x ∷ []) (y ∷ q) d)
 
 module _ {V : Type 0} (cmp : V → V → Ordering) (o : IsTotalOrder cmp) (same : IsAntisymmetric cmp)
-    (arcs : List (List V)) (a : Geometry V) (st : ArcsApart cmp arcs a) where
+    (arcs : List (List V)) (a : Geometry V) (st : ArcsAreNoded cmp arcs a) where
   abbrev on_lines : List V
   on_lines = gathered inner_of a.lines
 
@@ -127,7 +127,7 @@ module _ {V : Type 0} (cmp : V → V → Ordering) (o : IsTotalOrder cmp) (same 
       n (between_once b v c b' c' (around r) (ring_distinct r (part_distinct (λ r. r) a.rings rings_once r h)) p (subst (λ w. Between b' v c' (around w)) e q))
 
   -- so they stand
-  pub apart_stand : ArcsStand cmp arcs a
+  pub apart_stand : AreValidArcs cmp arcs a
   apart_stand = record {
     parted = st.parted;
     sorted = st.sorted;
@@ -173,7 +173,7 @@ ring_step v z (x ∷ (y ∷ l)) (inl e) = (y, inl (e, refl))
 ring_step v z (x ∷ l) (inr h) = let t = ring_step v z l h in (t.0, inr t.1)
 
 module _ {V : Type 0} (cmp : V → V → Ordering) (o : IsTotalOrder cmp) (same : IsAntisymmetric cmp) (dec : (a b : V) → Dec (a ≡ b))
-    (arcs : List (List V)) (a : Geometry V) (st : ArcsStand cmp arcs a) where
+    (arcs : List (List V)) (a : Geometry V) (st : AreValidArcs cmp arcs a) where
   sa : IsSound a
   sa = sound cmp o same dec arcs a st
 
@@ -215,7 +215,7 @@ module _ {V : Type 0} (cmp : V → V → Ordering) (o : IsTotalOrder cmp) (same 
   no_loop l (x ∷ q) h k e = st.free (x ∷ q) k x (inl refl) (inl (l, h, subst (λ w. EndOf x w) (sym e) (inl refl)))
 
   -- arcs that stand, each a line or a ring once, are apart
-  pub stand_apart : Distinct a.lines → Distinct a.rings → ArcsApart cmp arcs a
+  pub stand_apart : Distinct a.lines → Distinct a.rings → ArcsAreNoded cmp arcs a
   stand_apart dl dr = record {
     parted = st.parted;
     sorted = st.sorted;

@@ -16,7 +16,7 @@ use Rattle.theory.specs.Arcs.{AreArcsOf}
 use Rattle.theory.specs.Geometry.{Geometry, IsSound, JunctionOf}
 use Rattle.theory.specs.Lists.{Has, Pairwise, gathered}
 use Rattle.theory.specs.Refinement.{start_of, turned_used}
-use Rattle.theory.specs.Validity.{InLayers, IsListOfLine, IsReadGeometry, IsReadLayer, IsReadRing, Stands, TopologyStands}
+use Rattle.theory.specs.Validity.{InLayers, IsListOfLine, IsReadGeometry, IsReadLayer, IsReadRing, AreValidFor, IsValidTopology}
 use Rattle.theory.specs.Topology.{Body, Form, IsFormOf, IsGeometryOf, IsLayerOf, IsRingList, IsTopologyOf, Item, Layer, Map, Shape, Topology, forms_of, geometry_of, line, lines, lines_in, null, point, points, polygon, polygons, rings_in}
 use Rattle.theory.specs.TopologyFunction.{rotations}
 use Rattle.theory.specs.Users.{UsesArc}
@@ -68,7 +68,7 @@ module _ {V : Type 0} (cmp : V → V → Ordering) (o : IsTotalOrder cmp) (arcs 
       swap c s t (inr i) = elim (Uses-append k t s i) [ inl j ↦ Uses-right k s (c ∷ t) (inr j) | inr j ↦ Uses-left k s (c ∷ t) j ]
 
 module _ {V : Type 0} (cmp : V → V → Ordering) (o : IsTotalOrder cmp) (same : IsAntisymmetric cmp) (dec : (a b : V) → Dec (a ≡ b)) {I G B : Type 0}
-    (box_of : G → List V → Option B) (on : G) (m : Map I V) (a : Geometry V) (t : Topology G I V B) (st : TopologyStands cmp box_of on m a t) where
+    (box_of : G → List V → Option B) (on : G) (m : Map I V) (a : Geometry V) (t : Topology G I V B) (st : IsValidTopology cmp box_of on m a t) where
   g : Geometry V
   g = geometry_of m
 
@@ -96,7 +96,7 @@ module _ {V : Type 0} (cmp : V → V → Ordering) (o : IsTotalOrder cmp) (same 
       )
 
   -- its arcs stand
-  pub stands : Stands cmp t.arcs a (geometry_of m)
+  pub stands : AreValidFor cmp t.arcs a (geometry_of m)
   stands = record {
     alone = st.alone;
     lines = λ l h.

@@ -36,7 +36,7 @@ use Rattle.theory.specs.LinesAndRings.{closed}
 use Rattle.theory.specs.Lists.{Beside, Distinct, EndOf, Has, Passes, gathered, last_of}
 use Rattle.theory.specs.Refinement.{Alike, AreArcsAsMap, LoopArc, OpenArc, arcs_as_map, turned_used, unclosed}
 use Rattle.theory.specs.Segments.{OnThree}
-use Rattle.theory.specs.Validity.{ArcsApart, ArcsStand, InLayers, IsListOfLine, IsReadGeometry, IsReadLayer, IsReadRing, ThreeBegin, TopologyStands}
+use Rattle.theory.specs.Validity.{ArcsAreNoded, AreValidArcs, InLayers, IsListOfLine, IsReadGeometry, IsReadLayer, IsReadRing, ThreeBegin, IsValidTopology}
 use Rattle.theory.specs.Topology.{Body, IsFormOf, IsGeometryOf, IsLayerOf, IsRingList, IsTopologyOf, Item, Layer, Map, Shape, Topology, forms_of, geometry_of, lines_in, rings_in}
 use Rattle.theory.specs.TopologyFunction.{is_junction, keep, some}
 use Rattle.theory.specs.Users.{HasSegment}
@@ -84,7 +84,7 @@ module _ {V : Type 0} (cmp : V → V → Ordering) (o : IsTotalOrder cmp) (same 
   inside [] k u v w p j = k
   inside (x ∷ r) k u v w p j = k.inner_free u v w p j
 
-  pub arcs_stand : ArcsStand cmp arcs a
+  pub arcs_stand : AreValidArcs cmp arcs a
   arcs_stand = record {
     parted = record {
       lines = λ l h. (open_of l h).0;
@@ -124,7 +124,7 @@ module _ {V : Type 0} (cmp : V → V → Ordering) (o : IsTotalOrder cmp) (same 
       ]
 
   -- they are apart
-  pub arcs_apart : ArcsApart cmp arcs a
+  pub arcs_apart : ArcsAreNoded cmp arcs a
   arcs_apart =
       stand_apart cmp o same dec arcs a arcs_stand
       (keep_distinct (some (is_junction cmp g)) arcs each_once)
@@ -256,7 +256,7 @@ module _ {V : Type 0} (cmp : V → V → Ordering) (o : IsTotalOrder cmp) (same 
       let r : Reads f h.0.form = elim x.2 [ inl p ↦ subst (λ w. Reads w h.0.form) (sym p) h.2.form | inr z ↦ absurd z ] in
       (y.0, y.1, h.0, h.1, (users cmp o same dec (geometry_of m) sg t.arcs is.arcs f h.0.form r (form_ring f i) k c u v e b).0 s)
 
-  pub topology_stands : TopologyStands cmp box_of on m (arcs_as_map cmp (geometry_of m) t.arcs) t
+  pub topology_stands : IsValidTopology cmp box_of on m (arcs_as_map cmp (geometry_of m) t.arcs) t
   topology_stands = record {
     grid = is.grid;
     bbox = is.bbox;

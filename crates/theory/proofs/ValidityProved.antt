@@ -11,17 +11,17 @@ use Rattle.theory.specs.Refinement.{arcs_as_map}
 use Rattle.theory.specs.ValidityLaws as law
 use Rattle.theory.specs.Topology.{geometry_of}
 
-pub noded_arcs_are_valid : {V : Type 0} → law.ArcsApartStand V
+pub noded_arcs_are_valid : {V : Type 0} → law.NodedArcsAreValid V
 noded_arcs_are_valid cmp o arcs a st = apart_stand cmp o.total o.same arcs a st
 
-pub valid_arcs_are_the_maps : {V : Type 0} → law.ArcsThatStand V
+pub valid_arcs_are_the_maps : {V : Type 0} → law.ValidArcsAreTheMaps V
 valid_arcs_are_the_maps cmp o arcs a st =
     let dec = dec_by cmp o.total o.same in
     let s = sound cmp o.total o.same dec arcs a st in
     let all = are_arcs cmp o.total o.same dec arcs a st in
     (s, all, segments_once cmp o.total o.same dec a s arcs all)
 
-pub valid_lists_are_lines_or_rings : {V : Type 0} → law.ListsThatStand V
+pub valid_lists_are_lines_or_rings : {V : Type 0} → law.ValidListsAreLinesOrRings V
 valid_lists_are_lines_or_rings cmp o arcs a st used n u =
     let dec = dec_by cmp o.total o.same in
     let s = sound cmp o.total o.same dec arcs a st in
@@ -30,20 +30,20 @@ valid_lists_are_lines_or_rings cmp o arcs a st used n u =
       (λ q h. list_ring cmp o.total o.same dec a s arcs all used q n h u),
     )
 
-pub arcs_valid_for_a_map_are_its : {V : Type 0} → law.ArcsOfAMapThatStand V
+pub arcs_valid_for_a_map_are_its : {V : Type 0} → law.ArcsValidForAMapAreIts V
 arcs_valid_for_a_map_are_its cmp o arcs a g st =
     let dec = dec_by cmp o.total o.same in
     (map_sound cmp o.total o.same dec arcs a g st, arcs_of_map cmp o.total o.same dec arcs a g st, alike cmp o.total o.same dec arcs a g st)
 
-pub valid_ring_lists_are_the_maps : {V : Type 0} → law.RingListsThatStand V
+pub valid_ring_lists_are_the_maps : {V : Type 0} → law.ValidRingListsAreTheMaps V
 valid_ring_lists_are_the_maps cmp o g sg arcs all r i used st = ring_turned cmp o.total o.same (dec_by cmp o.total o.same) g sg arcs all r i used st
 
-pub topology_valid_for_a_map_is_its : {V I G B : Type 0} → law.TopologyThatStands V I G B
+pub topology_valid_for_a_map_is_its : {V I G B : Type 0} → law.TopologyValidForAMapIsIts V I G B
 topology_valid_for_a_map_is_its cmp box_of on m o a t st =
     let dec = dec_by cmp o.total o.same in
     (sound_map cmp o.total o.same dec box_of on m a t st, standing cmp o.total o.same dec box_of on m a t st)
 
-pub topology_of_a_map_is_valid : {V I G B : Type 0} → law.TopologiesStand V I G B
+pub topology_of_a_map_is_valid : {V I G B : Type 0} → law.TopologyOfAMapIsValid V I G B
 topology_of_a_map_is_valid cmp box_of on m o sg t is =
     let dec = dec_by cmp o.total o.same in (
       arcs_as_map cmp (geometry_of m) t.arcs,

@@ -72,10 +72,10 @@ skipped None = zero
 skipped (Some p) = p.1
 
 -- the new list along an old one of which the first n are skipped: each new arc in place of its pieces
-abbrev pub rejoined : Starts → ℕ → List ArcRef → List ArcRef
-rejoined starts n [] = []
-rejoined starts (suc n) (a ∷ old) = rejoined starts n old
-rejoined starts zero (a ∷ old) = written (starts a) ++ rejoined starts (skipped (starts a)) old
+abbrev pub healed_list : Starts → ℕ → List ArcRef → List ArcRef
+healed_list starts n [] = []
+healed_list starts (suc n) (a ∷ old) = healed_list starts n old
+healed_list starts zero (a ∷ old) = written (starts a) ++ healed_list starts (skipped (starts a)) old
 
 abbrev pub is_start : Option (ArcRef × ℕ) → Bool
 is_start None = false
@@ -92,12 +92,12 @@ from_start starts [] = []
 from_start starts (a ∷ old) = cond (is_start (starts a)) (a ∷ old) (from_start starts old)
 
 -- the new list of a ring: from the first old arc that begins a new one, turned to begin where it starts least
-abbrev pub ring_rejoined : {V : Type 0} → (V → V → Ordering) → List (List V) → Starts → List ArcRef → List ArcRef
-ring_rejoined cmp arcs starts old = turned_used cmp arcs (rejoined starts zero (from_start starts old ++ before_start starts old))
+abbrev pub healed_ring_list : {V : Type 0} → (V → V → Ordering) → List (List V) → Starts → List ArcRef → List ArcRef
+healed_ring_list cmp arcs starts old = turned_used cmp arcs (healed_list starts zero (from_start starts old ++ before_start starts old))
 
 -- a body after its arcs are joined
-abbrev pub rejoined_body : {V : Type 0} → (V → V → Ordering) → List (List V) → Starts → Body V → Body V
-rejoined_body cmp arcs starts b = form_map (rejoined starts zero) (ring_rejoined cmp arcs starts) b
+abbrev pub healed_body : {V : Type 0} → (V → V → Ordering) → List (List V) → Starts → Body V → Body V
+healed_body cmp arcs starts b = form_map (healed_list starts zero) (healed_ring_list cmp arcs starts) b
 
 -- used arcs that stitch to the list l: such as are kept, and none twice
 pub record IsRun {V : Type 0} (kept : ℕ → Type 0) (table : List (List V)) (used : List ArcRef) (l : List V) : Type 0 where
@@ -161,8 +161,8 @@ EndsInLayers {I} {V} table layers v =
     (used : List ArcRef) × Has used (lines_in h.form) × EndsList table v used
 
 -- a layer of geometries after its arcs are joined
-abbrev pub rejoined_layer : {I V : Type 0} → (V → V → Ordering) → List (List V) → Starts → Layer (Item I (Body V)) → Layer (Item I (Body V))
-rejoined_layer cmp arcs starts k = record { name = k.name; items = map (λ h. record { info = h.info; form = rejoined_body cmp arcs starts h.form }) k.items }
+abbrev pub healed_layer : {I V : Type 0} → (V → V → Ordering) → List (List V) → Starts → Layer (Item I (Body V)) → Layer (Item I (Body V))
+healed_layer cmp arcs starts k = record { name = k.name; items = map (λ h. record { info = h.info; form = healed_body cmp arcs starts h.form }) k.items }
 
 -- besides a, one other end of such an arc is at v, and no third
 abbrev pub TwoMeet : {V : Type 0} → (ℕ → Type 0) → List (List V) → V → ArcRef → Type 0

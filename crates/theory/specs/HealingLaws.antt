@@ -7,7 +7,7 @@ use Rattle.theory.specs.Geometry.{Geometry, IsLineOf, IsRingOf, IsSound, Junctio
 use Rattle.theory.specs.Laws.{IsOrder}
 use Rattle.theory.specs.Lists.{Pairwise}
 use Rattle.theory.specs.Refinement.{IsPartOf, IsRefinementOf}
-use Rattle.theory.specs.Healing.{AreJoined, AreStarts, EndsInLayers, IsCut, IsKept, IsLineEnd, KeptLaws, Starts, TwoMeet, less, rejoined, rejoined_layer, ring_rejoined}
+use Rattle.theory.specs.Healing.{AreJoined, AreStarts, EndsInLayers, IsCut, IsKept, IsLineEnd, KeptLaws, Starts, TwoMeet, less, healed_list, healed_layer, healed_ring_list}
 use Rattle.theory.specs.Validity.{BeginsAt, InLayers}
 use Rattle.theory.specs.Topology.{Body, IsLayerOf, IsRingList, IsTopologyOf, Item, Layer, Map, geometry_of, positions_of}
 
@@ -48,9 +48,9 @@ NewListsAlongOldOnes V =
     (arcs : List (List V)) (pieces : List (List ArcRef)) → IsRefinementOf cmp g u arcs table pieces →
     ((starts : Starts) × AreStarts pieces starts) ×
     ((starts : Starts) → AreStarts pieces starts →
-    ((l : List V) (old : List ArcRef) → IsLineOf g l → StitchTo table old l → StitchTo arcs (rejoined starts 0 old) l) ×
+    ((l : List V) (old : List ArcRef) → IsLineOf g l → StitchTo table old l → StitchTo arcs (healed_list starts 0 old) l) ×
     ((r : List V) (old : List ArcRef) → IsRingOf g r → IsRingList cmp (JunctionOf u) table r old →
-    IsRingList cmp (JunctionOf g) arcs r (ring_rejoined cmp arcs starts old)))
+    IsRingList cmp (JunctionOf g) arcs r (healed_ring_list cmp arcs starts old)))
 
 -- the marked features of a map are a part of it, and their geometries in its topology are marked alike
 abbrev pub MarkedFeaturesAreAPart : Type 0 → Type 0 → Type 0
@@ -76,4 +76,4 @@ TopologyOfWhatIsLeft V I G B =
     (olds : List (Layer (Item I (Body V)))) → Pairwise (IsLayerOf cmp (JunctionOf (geometry_of m)) table) n olds →
     (arcs : List (List V)) (pieces : List (List ArcRef)) (starts : Starts) →
     AreJoined cmp (geometry_of n) (geometry_of m) table arcs pieces → AreStarts pieces starts →
-    IsTopologyOf cmp box_of on n (record { grid = on; arcs = arcs; layers = map (rejoined_layer cmp arcs starts) olds; bbox = box_of on (positions_of n) })
+    IsTopologyOf cmp box_of on n (record { grid = on; arcs = arcs; layers = map (healed_layer cmp arcs starts) olds; bbox = box_of on (positions_of n) })

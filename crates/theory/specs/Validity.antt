@@ -20,7 +20,7 @@ pub record AreParted {V : Type 0} (arcs : List (List V)) (a : Geometry V) : Type
   pub each : (c : List V) → Has c arcs → IsLineOf a c ⊎ ((r : List V) × (c ≡ closed r) × IsRingOf a r)
 
 -- what is checked of the arcs, which are the map a: once for each arc
-pub record ArcsStand {V : Type 0} (cmp : V → V → Ordering) (arcs : List (List V)) (a : Geometry V) : Type 0 where
+pub record AreValidArcs {V : Type 0} (cmp : V → V → Ordering) (arcs : List (List V)) (a : Geometry V) : Type 0 where
   pub parted : AreParted arcs a
   -- in order, each once, and before its own reverse
   pub sorted : Ascends (slice_cmp cmp) arcs
@@ -42,7 +42,7 @@ abbrev pub insides : {V : Type 0} → Geometry V → List V
 insides a = gathered inner_of a.lines ++ gathered (λ r. r) a.rings
 
 -- the same of the arcs, told without junctions: a vertex inside an arc, or on a free one, is at no other place
-pub record ArcsApart {V : Type 0} (cmp : V → V → Ordering) (arcs : List (List V)) (a : Geometry V) : Type 0 where
+pub record ArcsAreNoded {V : Type 0} (cmp : V → V → Ordering) (arcs : List (List V)) (a : Geometry V) : Type 0 where
   pub parted : AreParted arcs a
   pub sorted : Ascends (slice_cmp cmp) arcs
   pub forward : (c : List V) → Has c arcs → slice_cmp cmp c (reverse c) ≡ Less
@@ -99,8 +99,8 @@ InARing {V} arcs g k = (r : List V) × (used : List ArcRef) × IsRingOf g r × I
 
 -- the arcs are valid for g: besides what is checked of them alone, and of each list, each arc is used,
 -- and each end of an arc that is not free is an end of a line, or three arcs meet there
-pub record Stands {V : Type 0} (cmp : V → V → Ordering) (arcs : List (List V)) (a g : Geometry V) : Type 0 where
-  pub alone : ArcsStand cmp arcs a
+pub record AreValidFor {V : Type 0} (cmp : V → V → Ordering) (arcs : List (List V)) (a g : Geometry V) : Type 0 where
+  pub alone : AreValidArcs cmp arcs a
   pub lines : (l : List V) → IsLineOf g l → (used : List ArcRef) × IsListOfLine arcs a l used
   pub rings : (r : List V) → IsRingOf g r → (used : List ArcRef) × IsListOfRing arcs r used
   pub used : (k : ℕ) (c : List V) → slice_get arcs k ≡ Some c → InALine arcs a g k ⊎ InARing arcs g k
@@ -128,11 +128,11 @@ InLayers {I} {V} layers k =
     (l : Layer (Item I (Body V))) × Has l layers × (h : Item I (Body V)) × Has h l.items × UsesArc k h.form
 
 -- a topology is valid for the map m on the grid
-pub record TopologyStands {G I V B : Type 0} (cmp : V → V → Ordering) (box_of : G → List V → Option B)
+pub record IsValidTopology {G I V B : Type 0} (cmp : V → V → Ordering) (box_of : G → List V → Option B)
     (on : G) (m : Map I V) (a : Geometry V) (t : Topology G I V B) : Type 0 where
   pub grid : t.grid ≡ on
   pub bbox : t.bbox ≡ box_of on (positions_of m)
-  pub alone : ArcsStand cmp t.arcs a
+  pub alone : AreValidArcs cmp t.arcs a
   pub layers : Pairwise (IsReadLayer cmp t.arcs a) m t.layers
   pub used : (k : ℕ) (c : List V) → slice_get t.arcs k ≡ Some c → InLayers t.layers k
   pub ends : (l : List V) → IsLineOf a l → (v : V) → EndOf v l →

@@ -1,7 +1,7 @@
 //! The laws of maps, each promised by a function that does nothing.
 ghost use Rattle.theory.specs.Laws as law;
 ghost use Rattle.theory.specs.HealingLaws as removing;
-ghost use Rattle.theory.specs.ValidityLaws as standing;
+ghost use Rattle.theory.specs.ValidityLaws as validity;
 
 /// Two chains that have one segment are one chain, or each is the other's reverse.
 #[tactic(auto, using(crate::proofs::ProvedLaws::one_chain_through_a_segment))]
@@ -248,38 +248,38 @@ pub fn topology_of_what_is_left<V, I, G, B>()
 /// Arcs of which no vertex inside one is at another place are valid.
 #[tactic(auto, using(crate::proofs::ValidityProved::noded_arcs_are_valid))]
 pub fn noded_arcs_are_valid<V>()
-    ensures { standing.ArcsApartStand V }
+    ensures { validity.NodedArcsAreValid V }
 {}
 
 /// Valid arcs are the arcs of the map that they make: no segment is in two of them, or twice in one.
 pub fn valid_arcs_are_the_maps<V>()
-    ensures { standing.ArcsThatStand V }
+    ensures { validity.ValidArcsAreTheMaps V }
 {}
 
 /// What a list stitches to that uses no arc twice is a line, or, closed, a ring.
 #[tactic(auto, using(crate::proofs::ValidityProved::valid_lists_are_lines_or_rings))]
 pub fn valid_lists_are_lines_or_rings<V>()
-    ensures { standing.ListsThatStand V }
+    ensures { validity.ValidListsAreLinesOrRings V }
 {}
 
 /// Arcs that are valid for a map are its arcs.
 pub fn arcs_valid_for_a_map_are_its<V>()
-    ensures { standing.ArcsOfAMapThatStand V }
+    ensures { validity.ArcsValidForAMapAreIts V }
 {}
 
 /// A ring's list, turned to begin where it starts least, is the one that the topology has.
 #[tactic(auto, using(crate::proofs::ValidityProved::valid_ring_lists_are_the_maps))]
 pub fn valid_ring_lists_are_the_maps<V>()
-    ensures { standing.RingListsThatStand V }
+    ensures { validity.ValidRingListsAreTheMaps V }
 {}
 
 /// A topology that is valid for a map is that of the map.
 pub fn topology_valid_for_a_map_is_its<V, I, G, B>()
-    ensures { standing.TopologyThatStands V I G B }
+    ensures { validity.TopologyValidForAMapIsIts V I G B }
 {}
 
 /// And the topology of each map is valid for it.
 #[tactic(auto, using(crate::proofs::ValidityProved::topology_of_a_map_is_valid))]
 pub fn topology_of_a_map_is_valid<V, I, G, B>()
-    ensures { standing.TopologiesStand V I G B }
+    ensures { validity.TopologyOfAMapIsValid V I G B }
 {}

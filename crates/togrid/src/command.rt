@@ -194,7 +194,7 @@ fn make<'a>(
     }
 }
 
-/// The same, or why the files are refused.
+/// What is printed, or why the files are refused.
 fn made_of(
     alloc: Global,
     options: &GridOptions<'_>,

@@ -35,7 +35,7 @@ pub(crate) fn remedy_of(alloc: Global, text: &[u8]) -> Result<Option<Remedy>, Ou
     }
 }
 
-/// The same of each text.
+/// What may help, for each text.
 pub(crate) fn remedies_of(
     alloc: Global,
     texts: &[Vec<u8>],

@@ -65,7 +65,7 @@ fn perform<'a, F: Files, O: Sink, E: Sink>(
     }
 }
 
-/// The same for the command of this name: what it prints about is made first, and then printed.
+/// Runs the command of this name: what it prints about is made first, and then printed.
 fn perform_named<'a, F: Files, O: Sink, E: Sink>(
     alloc: Global,
     name: &str,

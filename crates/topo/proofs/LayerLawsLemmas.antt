@@ -9,7 +9,7 @@ pub mod JoinedPairs
 pub mod EqualLists
 pub mod LessEntries
 pub mod LeftGeometries
-pub mod RejoinedLayers
+pub mod HealedLayers
 pub mod JoinUndone
 pub mod Passing
 pub mod LeftEnds

@@ -21,11 +21,11 @@ use Rattle.topo.specs.Parts.{LayerParts, TopologyParts}
 use Rattle.topo.specs.declared.geom.Geom.{Geom}
 use Rattle.topo.proofs.FeatureOrder.{features_stand}
 use Rattle.validate.specs.Accept.Kept.{KeepLayers, KeepsFeature}
-use Rattle.validate.specs.Accept.Laws.{HaveI64, IsStitched, LayersStand}
+use Rattle.validate.specs.Accept.Laws.{HaveI64, IsStitched, AreValidLayers}
 use Rattle.validate.specs.Accept.Order.{InOrder}
 use Rattle.validate.specs.Accept.Sorting.{AreReordered}
 use Rattle.validate.specs.Accept.Accepted.{IfWhole, IsWhole}
-use Rattle.validate.specs.Accept.Topology.{StandInOrder, table_of}
+use Rattle.validate.specs.Accept.Topology.{AreValidInOrder, table_of}
 use Rattle.validate.specs.declared.accept.topology.Accepted.{Accepted}
 use Rattle.validate.specs.declared.accept.topology.Accepted.TheVariants.{Whole}
 use Rattle.validate.proofs.AcceptLemmas.PartsOfMaps.{layers_are_the_maps}
@@ -127,7 +127,7 @@ module _ (arcs new_arcs : List (List Pos)) where
 
 -- layers that stand in order over other arcs stitch to a map, to which the others stitch too
 over_other_arcs : (arcs : List (List Pos)) (ls ks : List LayerParts) (t : Arcs) (ms : List LayerParts) → KeepLayers arcs t.arcs ls ks → AreReordered ks ms → HaveI64 ms →
-    LayersStand t ms → InOrder t.arcs ms → (m : Layers) × AreStitchedTo arcs ls m × ArePartsOf m t ms
+    AreValidLayers t ms → InOrder t.arcs ms → (m : Layers) × AreStitchedTo arcs ls m × ArePartsOf m t ms
 over_other_arcs arcs ls ks t ms keep moved ids stand order =
     let (m, stitched) = layers_make_a_map t ms stand ids order in
     let (fss, are, alike) = layers_kept arcs t.arcs (map.entries m) ls ks ms keep moved stitched in (
@@ -144,11 +144,11 @@ in_any_order bytes g arcs ls ks t ms said keep moved ids stand order =
 -- a topology of such layers, which stand in order over other arcs, is that of the map that the layers stitch to
 pub normalized_over : (g : Transform) (arcs cs : List (List Pos)) (ls ks ms : List LayerParts) → KeepLayers arcs cs ls ks → AreReordered ks ms → HaveI64 ms →
     (o : Accepted) (t : TopologyParts) → o ≡ Whole t → IfWhole o (λ t. t.grid ≡ g) → IfWhole o (λ t. t.arcs ≡ table_of cs ms) → IfWhole o (λ t. t.layers ≡ ms) →
-    IsWhole o ↔ StandInOrder (table_of cs ms) ms → IfWhole o (λ t. (m : Layers) → ArePartsOf m t.arcs t.layers → IsOf m t) → IsTopologyOver g arcs ls t
+    IsWhole o ↔ AreValidInOrder (table_of cs ms) ms → IfWhole o (λ t. (m : Layers) → ArePartsOf m t.arcs t.layers → IsOf m t) → IsTopologyOver g arcs ls t
 normalized_over g arcs cs ls ks ms keep moved ids o t e grid table layers stand of_map =
     let same_table : t.arcs ≡ table_of cs ms = subst (λ w. IfWhole w (λ t. t.arcs ≡ table_of cs ms)) e table in
     let same_layers : t.layers ≡ ms = subst (λ w. IfWhole w (λ t. t.layers ≡ ms)) e layers in
-    let in_order : StandInOrder (table_of cs ms) ms = stand.0 (subst IsWhole (sym e) tt) in
+    let in_order : AreValidInOrder (table_of cs ms) ms = stand.0 (subst IsWhole (sym e) tt) in
     let (m, stitched, parts) = over_other_arcs arcs ls ks (table_of cs ms) ms keep moved ids in_order.stand in_order.order in
     record {
       grid = subst (λ w. IfWhole w (λ t. t.grid ≡ g)) e grid;

@@ -19,7 +19,7 @@ pub mod Each
 pub mod Features
 pub mod JudgedLists
 pub mod Entries
-pub mod AsItStands
+pub mod ValidTextsMeanAMap
 pub mod AnyOrder
 pub mod TokenArcs
 pub mod TokenRange

@@ -1,5 +1,5 @@
 //! The laws of what texts mean and of their faults, as contracts of functions that do nothing.
-ghost use Rattle.topo_io.specs.Laws.{AsItStands, FirstIsRead, InAnyOrder, OneMeaning};
+ghost use Rattle.topo_io.specs.Laws.{ValidTextsMeanAMap, FirstIsRead, InAnyOrder, OneMeaning};
 
 /// A text means at most one grid and one feature map.
 pub fn one_meaning()
@@ -9,10 +9,10 @@ pub fn one_meaning()
 /// Where the layers of a text are valid over its arcs, in order, the text means a feature map, and its
 /// arcs and layers are those of that map's topology.
 pub fn valid_texts_mean_a_map()
-    ensures { AsItStands }
+    ensures { ValidTextsMeanAMap }
 {}
 
-/// The same where other layers over other arcs stand for those of the text, feature by feature, and their
+/// A text means a feature map also where valid layers over other arcs are those of the text, feature by feature, and their
 /// geometries are in another order.
 pub fn in_any_order()
     ensures { InAnyOrder }

@@ -5,5 +5,5 @@ pub mod PartsOfMaps
 pub mod PairsGathered
 pub mod Adding
 pub mod Ending
-pub mod StandingParts
+pub mod ValidParts
 pub mod Sorted

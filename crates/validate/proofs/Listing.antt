@@ -15,7 +15,7 @@ use Rattle.arcs.specs.Arcs.{Arcs}
 use Rattle.chains.specs.OfArcs.{table_as_map}
 use Rattle.arcs.specs.Table.{free_at, is_loop_if}
 use Rattle.chains.proofs.TablesAsMap.{has_open, open_has}
-use Rattle.validate.specs.Lists.{GoesRound, LineStands, RingStands, none_free}
+use Rattle.validate.specs.Lists.{GoesRound, IsValidLine, IsValidRing, none_free}
 use Rattle.arcs.specs.ArcMarks.{each_unmarked}
 use Rattle.validate.specs.ArcEnds.{from_to, line_ends}
 use Rattle.arcs.specs.Ends.{ends_along}
@@ -87,28 +87,28 @@ module _ (t : Arcs) where
 
 -- what is told of a line's list, in the code's order
 module _ (t : Arcs) (n : ℕ) (size : n ≡ length t.arcs) (us : List ArcRef) where
-  pub line_once : LineStands t.arcs (table_as_map t) us → each_unmarked (replicate n false) us ≡ true
+  pub line_once : IsValidLine t.arcs (table_as_map t) us → each_unmarked (replicate n false) us ≡ true
   line_once k = once_told n us k.once (λ i u. subst (λ w. i < w) (sym size) (runs_within t.arcs k.runs.0 us k.runs.1 k.runs.2 i u))
 
   pub line_told : (v w : Pos) (b : Bool) → each_unmarked (replicate n false) us ≡ true → ¬ (us ≡ []) → Runs t.arcs v us w → b ≡ none_free t us →
-      (b ≡ true) ↔ LineStands t.arcs (table_as_map t) us
+      (b ≡ true) ↔ IsValidLine t.arcs (table_as_map t) us
   line_told v w b e some h f = (
     (λ k. record { some = some; runs = (v, w, h); once = told_once n us e; no_free = none_free_open t us (sym f ∙ k) }),
     (λ k. f ∙ open_none_free t us k.no_free),
   )
 
-  pub ring_once : RingStands position_cmp t.arcs us → each_unmarked (replicate n false) us ≡ true
+  pub ring_once : IsValidRing position_cmp t.arcs us → each_unmarked (replicate n false) us ≡ true
   ring_once k = once_told n us k.once (λ i u. subst (λ w. i < w) (sym size) (runs_within t.arcs k.round.0 us k.round.0 k.round.1 i u))
 
   some_least : (us : List ArcRef) → BeginsLeast position_cmp t.arcs us → ¬ (us ≡ [])
   some_least [] h e = h
   some_least (a ∷ us) h e = absurd cc
 
-  pub ring_goes : RingStands position_cmp t.arcs us → GoesRound t.arcs us
+  pub ring_goes : IsValidRing position_cmp t.arcs us → GoesRound t.arcs us
   ring_goes k = (some_least us k.least, k.round.0, k.round.1)
 
   pub ring_told : (b : Bool) → each_unmarked (replicate n false) us ≡ true → GoesRound t.arcs us → b ≡ starts_least t.arcs us →
-      (b ≡ true) ↔ RingStands position_cmp t.arcs us
+      (b ≡ true) ↔ IsValidRing position_cmp t.arcs us
   ring_told b e round f = (
     (λ k. record { round = (round.1, round.2); once = told_once n us e; least = least_told t.arcs us (sym f ∙ k) }),
     (λ k. f ∙ told_least t.arcs us k.least),

@@ -30,14 +30,14 @@ use Rattle.theory.specs.Laws.{IsOrder}
 use Rattle.theory.specs.LinesAndRings.{closed}
 use Rattle.theory.specs.Lists.{Distinct, EndOf, Has, front_of, gathered, last_of}
 use Rattle.theory.specs.Refinement.{unclosed}
-use Rattle.theory.specs.Validity.{ArcsApart, ArcsStand, AreParted, insides}
+use Rattle.theory.specs.Validity.{ArcsAreNoded, AreValidArcs, AreParted, insides}
 use Rattle.arcs.specs.Among.{Tells, among}
 use Rattle.arcs.specs.Arcs.{Arcs}
 use Rattle.chains.specs.OfArcs.{table_as_map}
 use Rattle.arcs.specs.Table.{IsTableOf, is_loop, is_loop_if}
 use Rattle.arcs.specs.Stored.{rises}
 use Rattle.chains.proofs.Among.{among_has, has_among}
-use Rattle.arcs.proofs.AsTheyStand.{sorted_told}
+use Rattle.arcs.proofs.ArcsInOrder.{sorted_told}
 use Rattle.chains.proofs.TablesAsMap.{has_loop, has_open, loop_has, open_has}
 use Rattle.validate.specs.Noding.{AreInOrder, arc_inside, begins_least, each_forward, arcs_are_valid, is_forward, none_before, is_valid_arc}
 use Rattle.validate.specs.EndTests.{both_are, each_ends, ends_are}
@@ -188,7 +188,7 @@ module _ (t : Arcs) where
         none_most x (l ++ (x ∷ [])) (sym (ap begins_least p) ∙ (alone_loop (free k.0) k.0 k.2 (alone k.0 k.1)).1) v (Has-append_left v l (x ∷ []) i)
 
   -- arcs that are apart were looked at
-  module _ (st : ArcsApart position_cmp t.arcs m) where
+  module _ (st : ArcsAreNoded position_cmp t.arcs m) where
     goes_round : (c : List Pos) → Has c t.arcs → free c ≡ true → (is_closed position_cmp c && begins_least c) ≡ true
     goes_round c h f = elim (st.parted.each c h) [
       | inl k ↦ absurd (let q : true ≡ false = sym f ∙ (open_has t.loops t.arcs c k).1 in cc)
@@ -224,7 +224,7 @@ module _ (t : Arcs) where
         let k = doubled_twice few h in
         doubled_moved inside (insides m) of_map (twice_doubled k.0 inside (kept.only_twice k.0 k.1))
 
-    pub twins_not_apart : equal_neighbours position_eq sorted ≡ true → ¬ ArcsApart position_cmp t.arcs m
+    pub twins_not_apart : equal_neighbours position_eq sorted ≡ true → ¬ ArcsAreNoded position_cmp t.arcs m
     twins_not_apart e st =
         not_doubled (insides m) st.once (few_doubled (doubled_moved sorted few (IsPermutation-sym few sorted moved) (twins_doubled sorted e)))
 
@@ -234,7 +234,7 @@ module _ (t : Arcs) where
         let q : true ≡ false = sym k ∙ e in absurd cc)
 
     pub apart_intro : Ascends list_cmp t.arcs → arcs_are_valid t.loops t.arcs ≡ true → equal_neighbours position_eq sorted ≡ false → each_ends Apart sorted t.loops t.arcs ≡ true →
-        ArcsApart position_cmp t.arcs m
+        ArcsAreNoded position_cmp t.arcs m
     apart_intro asc e n a = record {
       parted = parted e;
       sorted = asc;
@@ -247,7 +247,7 @@ module _ (t : Arcs) where
       first = least e;
     }
 
-    pub apart_ends : ArcsApart position_cmp t.arcs m → each_ends Apart sorted t.loops t.arcs ≡ true
+    pub apart_ends : ArcsAreNoded position_cmp t.arcs m → each_ends Apart sorted t.loops t.arcs ≡ true
     apart_ends st = all_from (ends_are Apart sorted t.loops) t.arcs (λ c h. go c h (free c) refl)
       where
         go : (c : List Pos) → Has c t.arcs → (b : Bool) → free c ≡ b → (b || both_are Apart sorted c) ≡ true
@@ -256,8 +256,8 @@ module _ (t : Arcs) where
             (Has-permutation inside (insides m) v of_map (kept.only v (Has-permutation sorted few v (IsPermutation-sym few sorted moved) (among_has sorted v k)))))
 
   -- arcs that are apart are those of their map, of which the marked ones are free
-  module _ (st : ArcsApart position_cmp t.arcs m) where
-    stand : ArcsStand position_cmp t.arcs m
+  module _ (st : ArcsAreNoded position_cmp t.arcs m) where
+    stand : AreValidArcs position_cmp t.arcs m
     stand = noded_arcs_are_valid position_cmp order t.arcs m st
 
     pub map_sound : IsSound m

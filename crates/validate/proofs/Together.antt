@@ -21,17 +21,17 @@ use Rattle.theory.specs.Laws.{IsOrder}
 use Rattle.theory.specs.LinesAndRings.{closed}
 use Rattle.theory.specs.Lists.{Has, Pairwise, front_of, last_of}
 use Rattle.theory.specs.Refinement.{Alike, turned_used}
-use Rattle.theory.specs.Validity.{ArcsApart, ArcsStand, EndsList, InALine, InARing, IsListOfLine, IsListOfRing, Stands}
+use Rattle.theory.specs.Validity.{ArcsAreNoded, AreValidArcs, EndsList, InALine, InARing, IsListOfLine, IsListOfRing, AreValidFor}
 use Rattle.theory.specs.Topology.{IsRingList}
 use Rattle.arcs.specs.Among.{Tells}
 use Rattle.arcs.specs.Arcs.{Arcs}
 use Rattle.chains.specs.OfArcs.{table_as_map}
 use Rattle.arcs.specs.Table.{IsTableOf, free_at}
-use Rattle.validate.specs.Lists.{LineStands, RingStands}
+use Rattle.validate.specs.Lists.{IsValidLine, IsValidRing}
 use Rattle.validate.specs.ArcEnds.{from_to, line_ends}
 use Rattle.arcs.specs.Ends.{ends_along}
 use Rattle.validate.specs.Validity as law
-use Rattle.validate.specs.Validity.{AreListsOf, AreTurnedListsOf, ListsStand, StitchAround}
+use Rattle.validate.specs.Validity.{AreListsOf, AreTurnedListsOf, AreValidLists, StitchAround}
 use Rattle.validate.proofs.NodedArcs.{is_table}
 use Rattle.arcs.proofs.EndsAlong.{ends_run}
 
@@ -68,11 +68,11 @@ made R (y ∷ ys) h =
     let s = made R ys (λ z i. h z (inr i)) in
     (t.0 ∷ s.0, (t.1, s.1))
 
-module _ (t : Arcs) (st : ArcsApart position_cmp t.arcs (table_as_map t)) where
+module _ (t : Arcs) (st : ArcsAreNoded position_cmp t.arcs (table_as_map t)) where
   abbrev a : Geometry Pos
   a = table_as_map t
 
-  alone : ArcsStand position_cmp t.arcs a
+  alone : AreValidArcs position_cmp t.arcs a
   alone = noded_arcs_are_valid position_cmp order t.arcs a st
 
   sound : IsSound a
@@ -81,20 +81,20 @@ module _ (t : Arcs) (st : ArcsApart position_cmp t.arcs (table_as_map t)) where
   all : AreArcsOf position_cmp a t.arcs
   all = (valid_arcs_are_the_maps position_cmp order t.arcs a alone).1
 
-  line_list : (us : List ArcRef) (l : List Pos) → LineStands t.arcs a us → StitchTo t.arcs us l → IsListOfLine t.arcs a l us
+  line_list : (us : List ArcRef) (l : List Pos) → IsValidLine t.arcs a us → StitchTo t.arcs us l → IsListOfLine t.arcs a l us
   line_list us l k s = record { some = k.some; stitch = s; once = k.once; no_free = k.no_free }
 
-  ring_some : (us : List ArcRef) → RingStands position_cmp t.arcs us → ¬ (us ≡ [])
+  ring_some : (us : List ArcRef) → IsValidRing position_cmp t.arcs us → ¬ (us ≡ [])
   ring_some [] k e = k.least
   ring_some (b ∷ us) k e = absurd cc
 
-  ring_list : (us : List ArcRef) (r : List Pos) → RingStands position_cmp t.arcs us → StitchAround t.arcs us r → IsListOfRing t.arcs r us
+  ring_list : (us : List ArcRef) (r : List Pos) → IsValidRing position_cmp t.arcs us → StitchAround t.arcs us r → IsListOfRing t.arcs r us
   ring_list us r k s = record { some = ring_some us k; around = s; once = k.once }
 
-  turned : (us : List ArcRef) (r : List Pos) → RingStands position_cmp t.arcs us → StitchTo t.arcs us (closed r) → turned_used position_cmp t.arcs us ≡ us
+  turned : (us : List ArcRef) (r : List Pos) → IsValidRing position_cmp t.arcs us → StitchTo t.arcs us (closed r) → turned_used position_cmp t.arcs us ≡ us
   turned us r k s = least_turned position_cmp position_total position_same position_dec a sound t.arcs all us r s k.once k.least
 
-  module _ (lines rings : List (List ArcRef)) (ok : ListsStand t lines rings) where
+  module _ (lines rings : List (List ArcRef)) (ok : AreValidLists t lines rings) where
     a_map : (g : Geometry Pos) × AreListsOf t.arcs lines rings g
     a_map =
         let ls = made (λ l us. StitchTo t.arcs us l) lines
@@ -106,7 +106,7 @@ module _ (t : Arcs) (st : ArcsApart position_cmp t.arcs (table_as_map t)) where
         (record { lines = ls.0; rings = rs.0 }, record { of_lines = ls.1; of_rings = rs.1 })
 
     module _ (g : Geometry Pos) (are : AreTurnedListsOf t.arcs lines rings g) where
-      stands : Stands position_cmp t.arcs a g
+      stands : AreValidFor position_cmp t.arcs a g
       stands = record {
         alone = alone;
         lines = λ l h.

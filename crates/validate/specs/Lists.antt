@@ -8,14 +8,14 @@ use Rattle.arcs.specs.Arcs.{Arcs}
 use Rattle.arcs.specs.Table.{free_at}
 
 -- a line's list: it is not empty, runs on, and uses no arc twice and none that is free
-pub record LineStands {V : Type 0} (arcs : List (List V)) (a : Geometry V) (refs : List ArcRef) : Type 0 where
+pub record IsValidLine {V : Type 0} (arcs : List (List V)) (a : Geometry V) (refs : List ArcRef) : Type 0 where
   pub some : ¬ (refs ≡ [])
   pub runs : (v : V) × (w : V) × Runs arcs v refs w
   pub once : UsesOnce refs
   pub no_free : (k : ℕ) (c : List V) → Uses k refs → slice_get arcs k ≡ Some c → IsLineOf a c
 
 -- a ring's list: it runs round, uses no arc twice, and begins where it starts least
-pub record RingStands {V : Type 0} (cmp : V → V → Ordering) (arcs : List (List V)) (refs : List ArcRef) : Type 0 where
+pub record IsValidRing {V : Type 0} (cmp : V → V → Ordering) (arcs : List (List V)) (refs : List ArcRef) : Type 0 where
   pub round : (v : V) × Runs arcs v refs v
   pub once : UsesOnce refs
   pub least : BeginsLeast cmp arcs refs

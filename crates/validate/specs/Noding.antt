@@ -10,7 +10,7 @@ use Rattle.theory.specs.Arcs.{Ascends}
 use Rattle.theory.specs.Geometry.{IsSound}
 use Rattle.theory.specs.Lists.{Has}
 use Rattle.theory.specs.Refinement.{unclosed}
-use Rattle.theory.specs.Validity.{ArcsApart, inner_of}
+use Rattle.theory.specs.Validity.{ArcsAreNoded, inner_of}
 use Rattle.arcs.specs.Arcs.{Arcs}
 use Rattle.chains.specs.OfArcs.{table_as_map}
 use Rattle.arcs.specs.Table.{IsTableOf, is_loop, marked}
@@ -66,8 +66,8 @@ inside_if loops (Some c) = arc_inside loops c
 
 -- the answer is whether the arcs, where they are in order, are apart
 abbrev pub IsApart : Bool → Arcs → Type 0
-IsApart b t = Ascends list_cmp t.arcs → (b ≡ true) ↔ ArcsApart position_cmp t.arcs (table_as_map t)
+IsApart b t = Ascends list_cmp t.arcs → (b ≡ true) ↔ ArcsAreNoded position_cmp t.arcs (table_as_map t)
 
 -- arcs that are apart are those of the map that has the free loops as its rings and the other arcs as its lines
 abbrev pub ApartArcsAreTheirMaps : Type 0
-ApartArcsAreTheirMaps = (t : Arcs) → ArcsApart position_cmp t.arcs (table_as_map t) → IsSound (table_as_map t) × IsTableOf (table_as_map t) t
+ApartArcsAreTheirMaps = (t : Arcs) → ArcsAreNoded position_cmp t.arcs (table_as_map t) → IsSound (table_as_map t) × IsTableOf (table_as_map t) t

@@ -44,7 +44,7 @@ fn both_are(ends: EndsHaveToBe, sorted: &[Pos], arc: &[Pos]) -> bool
     }
 }
 
-/// The same for an arc of a table; a free loop has no ends.
+/// Whether the ends of an arc of a table are where they have to be; a free loop has no ends.
 fn arc_ends_are(ends: EndsHaveToBe, sorted: &[Pos], table: &ArcTable, number: usize) -> bool
     requires { IsSorted position_cmp sorted.now }
     ensures { result ≡ spec.ends_if ends sorted.now table.now.loops (slice_get table.now.arcs number) }
@@ -55,7 +55,7 @@ fn arc_ends_are(ends: EndsHaveToBe, sorted: &[Pos], table: &ArcTable, number: us
     }
 }
 
-/// The same for each arc of a table.
+/// Whether the ends of each arc of a table are where they have to be.
 pub(crate) fn each_ends(ends: EndsHaveToBe, sorted: &[Pos], table: &ArcTable) -> bool
     requires { IsSorted position_cmp sorted.now }
     ensures { result ≡ spec.each_ends ends sorted.now table.now.loops table.now.arcs }

@@ -2,7 +2,7 @@
 ghost use Rattle.chains.specs.OfArcs.{table_as_map};
 ghost use Rattle.lines.specs.Turned.{position_cmp};
 ghost use Rattle.validate.specs.Lists as spec;
-ghost use Rattle.validate.specs.Lists.{LineStands, RingStands};
+ghost use Rattle.validate.specs.Lists.{IsValidLine, IsValidRing};
 ghost use Rattle.arcs.specs.ArcMarks.{marks_set};
 ghost use Rattle.validate.specs.ArcEnds.{line_ends};
 ghost use Rattle.std.specs.Prelude.{◌≡◌, ◌↔◌, [], ◌∷◌, length, true, IfSome, IsSome};
@@ -30,7 +30,7 @@ fn none_free(table: &ArcTable, refs: &[ArcRef]) -> bool
 #[tactic(auto, using(arcs::proofs::SetMarks::marks_set_long))]
 pub fn line_run(table: &ArcTable, used: &mut ArcsUsed, refs: &[ArcRef]) -> Option<(Pos, Pos)>
     requires { length used.old ≡ length table.now.arcs }
-    ensures stands { IsSome result ↔ LineStands table.now.arcs (table_as_map table.now) refs.now }
+    ensures stands { IsSome result ↔ IsValidLine table.now.arcs (table_as_map table.now) refs.now }
     ensures ends { IfSome result (λ e. line_ends table.now.arcs refs.now ≡ e.0 ∷ (e.1 ∷ [])) }
     ensures used { used.new ≡ marks_set true used.old refs.now }
     ensures len { length used.new ≡ length used.old }
@@ -63,7 +63,7 @@ fn goes_round(table: &ArcTable, refs: &[ArcRef]) -> bool
 #[tactic(auto, using(arcs::proofs::SetMarks::marks_set_long))]
 pub fn is_valid_ring(table: &ArcTable, used: &mut ArcsUsed, refs: &[ArcRef]) -> bool
     requires { length used.old ≡ length table.now.arcs }
-    ensures stands { (result ≡ true) ↔ RingStands position_cmp table.now.arcs refs.now }
+    ensures stands { (result ≡ true) ↔ IsValidRing position_cmp table.now.arcs refs.now }
     ensures used { used.new ≡ marks_set true used.old refs.now }
     ensures len { length used.new ≡ length used.old }
 {

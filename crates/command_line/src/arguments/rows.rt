@@ -29,13 +29,13 @@ pub(crate) enum Form {
     Words,
     /// `--name VALUE`, which has to be there, and what help calls the value.
     Needed(&'static str),
-    /// The same, where another argument is not there.
+    /// `--name VALUE`, which has to be there where another argument is not.
     NeededWithout(&'static str, &'static str),
     /// `--name VALUE`, and what help calls the value.
     Value(&'static str),
-    /// The same, which does not go with another argument.
+    /// `--name VALUE`, which does not go with another argument.
     ValueNotWith(&'static str, &'static str),
-    /// The same, which wants another argument beside it, and does not go with others.
+    /// `--name VALUE`, which wants another argument beside it, and does not go with others.
     ValueWith(&'static str, &'static str, &'static [&'static str]),
     /// `--name VALUE`, what help calls the value, and a letter for it.
     Lettered(char, &'static str),
@@ -47,15 +47,15 @@ pub(crate) enum Form {
     /// `--name VALUE`, what help calls the value, and the words that it may be, of which the first is taken
     /// where it is not there.
     OneOf(&'static str, &'static [&'static str]),
-    /// The same, of which none is taken where it is not there.
+    /// `--name VALUE`, what help calls the value, and the words that it may be; none is taken where it is not there.
     AnyOf(&'static str, &'static [&'static str]),
     /// `--name` alone.
     Flag,
-    /// The same, and a letter for it.
+    /// `--name` alone, and a letter for it.
     LetteredFlag(char),
-    /// The same, which wants another argument beside it.
+    /// `--name` alone, which wants another argument beside it.
     FlagWith(&'static str),
-    /// The same, which does not go with other arguments.
+    /// `--name` alone, which does not go with other arguments.
     FlagNotWith(&'static [&'static str]),
 }
 

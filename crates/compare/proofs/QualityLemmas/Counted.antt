@@ -15,7 +15,7 @@ use Rattle.shapes.specs.contracts.shape.IdOrd.TheImpl as id_order
 use Rattle.shapes.specs.contracts.shape.IdOrd.TheImpl.Laws.{total-law}
 use Rattle.shapes.specs.declared.shape.Id.{Id}
 use Rattle.topo.specs.declared.geom.Geom.{Geom}
-use Rattle.compare.specs.Quality.Ids.{count_of, ids_in, is_missing, lent_cmp, numbers_of, one_if, stands_again, times}
+use Rattle.compare.specs.Quality.Ids.{count_of, ids_in, is_missing, borrowed_cmp, numbers_of, one_if, stands_again, times}
 
 id_derived_is : (a b : Id) → id_order.cmp-value.it a b ≡ id_cmp a b
 id_derived_is a b = search rules
@@ -56,11 +56,11 @@ pub count_none : (m : tree.BTreeMap (Bor Id) ℕ) (q : Id) → m.entries ≡ [] 
 count_none m q e = ap (λ es. unwrap_or (lookup (tree.is_at (λ k. id_order.cmp-value.it q k.now)) es) 0) e
 
 counted_at : (old new : tree.BTreeMap (Bor Id) ℕ) (id : Bor Id) (v : ℕ) → v ≡ times id.now old + 1 →
-    ((q : Bor Id) → tree.get lent_cmp new q ≡ cond (is_eq (lent_cmp id q)) (Some v) (tree.get lent_cmp old q)) → (q : Bor Id) →
+    ((q : Bor Id) → tree.get borrowed_cmp new q ≡ cond (is_eq (borrowed_cmp id q)) (Some v) (tree.get borrowed_cmp old q)) → (q : Bor Id) →
     times q.now new ≡ times q.now old + one_if (is_eq (id_cmp q.now id.now))
-counted_at old new id v made put q = ap (λ o. unwrap_or o 0) (put q) ∙ go (lent_cmp id q) refl
+counted_at old new id v made put q = ap (λ o. unwrap_or o 0) (put q) ∙ go (borrowed_cmp id q) refl
   where
-    apart : (r : Ordering) → lent_cmp id q ≡ r → is_eq r ≡ false → (b : Bool) → is_eq (id_cmp q.now id.now) ≡ b → times q.now old ≡ times q.now old + one_if b
+    apart : (r : Ordering) → borrowed_cmp id q ≡ r → is_eq r ≡ false → (b : Bool) → is_eq (id_cmp q.now id.now) ≡ b → times q.now old ≡ times q.now old + one_if b
     apart r e f true t =
         let same : q.now ≡ id.now = same_id q.now id.now ((Equal-is (id_cmp q.now id.now)).0 t) in
         let ties : r ≡ Equal = sym e ∙ ap (id_order.cmp-value.it id.now) same ∙ tied_itself total-law id.now in
@@ -68,7 +68,7 @@ counted_at old new id v made put q = ap (λ o. unwrap_or o 0) (put q) ∙ go (le
         absurd cc
     apart r e f false t = omega arith
 
-    go : (r : Ordering) → lent_cmp id q ≡ r → unwrap_or (cond (is_eq r) (Some v) (tree.get lent_cmp old q)) 0 ≡ times q.now old + one_if (is_eq (id_cmp q.now id.now))
+    go : (r : Ordering) → borrowed_cmp id q ≡ r → unwrap_or (cond (is_eq r) (Some v) (tree.get borrowed_cmp old q)) 0 ≡ times q.now old + one_if (is_eq (id_cmp q.now id.now))
     go Less e = apart Less e refl (is_eq (id_cmp q.now id.now)) refl
     go Equal e =
         let same : id.now ≡ q.now = one_id id.now q.now e in
@@ -76,7 +76,7 @@ counted_at old new id v made put q = ap (λ o. unwrap_or o 0) (put q) ∙ go (le
     go Greater e = apart Greater e refl (is_eq (id_cmp q.now id.now)) refl
 
 pub counted_once : (old new : tree.BTreeMap (Bor Id) ℕ) (id : Bor Id) (v : ℕ) → v ≡ times id.now old + 1 →
-    ((q : Bor Id) → tree.get lent_cmp new q ≡ cond (is_eq (lent_cmp id q)) (Some v) (tree.get lent_cmp old q)) → (q : Id) →
+    ((q : Bor Id) → tree.get borrowed_cmp new q ≡ cond (is_eq (borrowed_cmp id q)) (Some v) (tree.get borrowed_cmp old q)) → (q : Id) →
     times q new ≡ times q old + one_if (is_eq (id_cmp q id.now))
 counted_once old new id v made put q = counted_at old new id v made put (record { ref_ptr = (0, 0); now = q })
 

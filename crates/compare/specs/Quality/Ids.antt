@@ -39,8 +39,8 @@ numbers_of p n [] = []
 numbers_of p n (i ∷ ids) = cond (p i) (n ∷ numbers_of p (n + 1) ids) (numbers_of p (n + 1) ids)
 
 -- the order of what is borrowed
-abbrev pub lent_cmp : Bor Id → Bor Id → Ordering
-lent_cmp a b = id_order.cmp-value.it a.now b.now
+abbrev pub borrowed_cmp : Bor Id → Bor Id → Ordering
+borrowed_cmp a b = id_order.cmp-value.it a.now b.now
 
 -- how many times a table has counted the id
 abbrev pub times : Id → tree.BTreeMap (Bor Id) ℕ → ℕ

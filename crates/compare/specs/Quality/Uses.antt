@@ -50,8 +50,8 @@ abbrev pub all_uses : TopologyParts → List VertexUse
 all_uses t = geometries_uses t.arcs.arcs 0 (gathered (λ l. l.geometries) t.layers)
 
 -- the geometries behind references
-abbrev pub lent : List (Bor Geom) → List Geom
-lent gs = map (λ g. g.now) gs
+abbrev pub borrowed : List (Bor Geom) → List Geom
+borrowed gs = map (λ g. g.now) gs
 
 -- by positions, then by features
 abbrev pub use_cmp : VertexUse → VertexUse → Ordering

@@ -1,5 +1,5 @@
 //! Which features have which vertices.
-ghost use Rattle.compare.specs.Quality.Uses.{all_uses, body_uses, geometries_uses, lent, line_uses, places_uses, use_cmp};
+ghost use Rattle.compare.specs.Quality.Uses.{all_uses, body_uses, geometries_uses, borrowed, line_uses, places_uses, use_cmp};
 ghost use Rattle.std.specs.List.Sorted.{IsPermutation, IsSorted};
 ghost use Rattle.std.specs.Prelude.{◌≡◌, ◌++◌, IfOk, OnOk};
 ghost use Rattle.theory.specs.Lists.{gathered};
@@ -83,7 +83,7 @@ fn add_body(
 
 /// Puts the geometries of a layer behind those of the layers before it.
 fn add_geometries<'a>(noted: &mut Vec<&'a Geom>, geometries: &'a [Geom]) -> Result<(), AllocError>
-    ensures { OnOk result (lent noted.new.items ≡ lent noted.old.items ++ geometries.now) }
+    ensures { OnOk result (borrowed noted.new.items ≡ borrowed noted.old.items ++ geometries.now) }
 {
     for geometry in geometries {
         noted.push(geometry)?;
@@ -93,7 +93,7 @@ fn add_geometries<'a>(noted: &mut Vec<&'a Geom>, geometries: &'a [Geom]) -> Resu
 
 /// The geometries of all layers, one layer after the other.
 fn geometries_in<'a>(alloc: Global, layers: &'a [Layer]) -> Result<Vec<&'a Geom>, AllocError>
-    ensures { IfOk result (λ v. lent v.items ≡ gathered (λ l. l.geometries) layers.now) }
+    ensures { IfOk result (λ v. borrowed v.items ≡ gathered (λ l. l.geometries) layers.now) }
 {
     let mut noted = Vec::new(alloc);
     for layer in layers {
@@ -108,7 +108,7 @@ fn uses_by(
     topology: &Topology,
     geometries: &[&Geom],
 ) -> Result<Vec<VertexUse>, AllocError>
-    ensures { IfOk result (λ v. v.items ≡ geometries_uses topology.now.arcs.arcs 0 (lent geometries.now)) }
+    ensures { IfOk result (λ v. v.items ≡ geometries_uses topology.now.arcs.arcs 0 (borrowed geometries.now)) }
 {
     let mut uses = Vec::new(alloc);
     for number in 0..geometries.len() {

@@ -46,7 +46,7 @@ fn round_quotient(n: i128, d: u128) -> i128
     if n < 0 { -size } else { size }
 }
 
-// The same for a size that may be below 0.
+// A number over a size that may be below 0, rounded likewise.
 fn nearest(n: i128, d: i128) -> i128
     requires some { 1 ≤ unsigned_abs d }
     requires few { unsigned_abs d < 10 ^ 37 }
@@ -79,7 +79,7 @@ fn times_power(size: u128, zeros: u32) -> u128
         .min(TOO_GREAT)
 }
 
-// The same for a number that may be below 0.
+// A number that may be below 0 with so many zeros behind it.
 fn times_power_signed(value: i128, zeros: u32) -> i128
     requires { unsigned_abs value ≤ 10 ^ 37 }
     ensures size { unsigned_abs result ≡ min (unsigned_abs value * 10 ^ zeros) (10 ^ 37) }

@@ -122,8 +122,8 @@ fn removal_by_topology(alloc: Global, row: &Row) -> Result<Box<Removal>, Fail> {
 /// What is left, lent and handed out, and the old arcs of each new one, are those of the row.
 fn assert_made<R: Abort + AllocGlobal>(rt: &R, made: Box<Removal>, row: &Row) -> Result<(), Fail> {
     assert!(rt; are_pieces(&*made, row.pieces), "{}: pieces", row.title);
-    let is_lent = is_text_of(rt.alloc(), made.topology(), row.left)?;
-    assert!(rt; is_lent, "{}", row.title);
+    let is_borrowed = is_text_of(rt.alloc(), made.topology(), row.left)?;
+    assert!(rt; is_borrowed, "{}", row.title);
     let is_handed_out = is_handed_out(rt.alloc(), made, row.left)?;
     assert!(rt; is_handed_out, "{}", row.title);
     Ok(())

@@ -43,8 +43,8 @@ fn assert_text(
 ) -> Result<(), Fail> {
     let text = session.text()?;
     assert!(rt; text.as_slice() == expected.as_bytes(), "{expected}");
-    let is_lent = is_text_of(alloc, session.topology(), expected)?;
-    assert!(rt; is_lent, "{expected}");
+    let is_borrowed = is_text_of(alloc, session.topology(), expected)?;
+    assert!(rt; is_borrowed, "{expected}");
     Ok(())
 }
 

@@ -80,7 +80,7 @@ fn agree(labels: &[usize], segment: &NumberedSegment, other: &NumberedSegment) -
     segment.pair != other.pair || label_of(labels, segment.arc) == label_of(labels, other.arc)
 }
 
-/// The same of all neighbours.
+/// Whether `agree` holds of all neighbours in a list.
 fn all_agree(labels: &[usize], segments: &[NumberedSegment]) -> bool
     ensures { result ≡ spec.all_agree labels.now segments.now }
 {

@@ -1,6 +1,6 @@
 //! Which features of a layer are neighbours: those that share a segment, so an arc.
 ghost use Rattle.query.specs.ArcUsers.{AreInOrder, AreListsBy, with_index, with_indexes, with_index_at, with_index_in, others, user_of as user_at};
-ghost use Rattle.query.specs.EachOnce.{lent};
+ghost use Rattle.query.specs.EachOnce.{borrowed};
 ghost use Rattle.query.specs.Neighbors.{ListsNeighbors};
 ghost use Rattle.query.specs.declared.fault.QueryFault.TheVariants.{NoLayer as MissingLayer};
 ghost use Rattle.shapes.specs.Maps.{features_at};
@@ -102,7 +102,7 @@ pub(crate) fn lists_by(
     geometries: &[&Geom],
     classes: &[usize],
 ) -> Result<Vec<Vec<usize>>, AllocError>
-    ensures { IfOk result (λ v. AreListsBy (lent geometries.now) classes.now (map_list (λ l. l.items) v.items)) }
+    ensures { IfOk result (λ v. AreListsBy (borrowed geometries.now) classes.now (map_list (λ l. l.items) v.items)) }
 {
     let mut uses = uses_by(alloc, geometries)?;
     uses.sort_unstable();

@@ -12,7 +12,7 @@ use json::Reader;
 use lines::items::Items;
 use std::alloc::Global;
 
-/// The same as `ListOf`, with `Items` in place of a `Vec`.
+/// `ListOf` with `Items` in place of a `Vec`.
 #[derive(Clone, Copy)]
 pub struct ItemsOf<P> {
     pub of: P,

@@ -4,7 +4,7 @@ use chains::VisitIndex;
 use chains::cutting::Piece;
 use faults::OutOfMemory;
 use grid::Pos;
-use refused_calls::calls::Lent;
+use refused_calls::calls::Borrowed;
 use refused_calls::comparing::same_map;
 use refused_calls::inputs::{built, is_of, positions, read};
 use refused_calls::outcome::Tally;
@@ -23,7 +23,7 @@ struct Indexing {
     right: Topology,
 }
 
-impl Lent for Indexing {
+impl Borrowed for Indexing {
     fn is_as_before(&self) -> bool {
         same_map(&self.map, &self.copy) && is_of(&self.left, FIRST) && is_of(&self.right, SECOND)
     }

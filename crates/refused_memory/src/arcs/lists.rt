@@ -2,7 +2,7 @@
 
 use chains::{ArcRef, ArcTable};
 use faults::OutOfMemory;
-use refused_calls::calls::Lent;
+use refused_calls::calls::Borrowed;
 use refused_calls::comparing::{are_used, same_arcs};
 use refused_calls::inputs::{built, is_of};
 use refused_calls::outcome::Tally;
@@ -27,7 +27,7 @@ fn cut_again(alloc: Global) -> Option<Recut> {
     recut(alloc, two.arcs(), third.arcs()).ok()
 }
 
-impl Lent for Lists {
+impl Borrowed for Lists {
     fn is_as_before(&self) -> bool {
         is_of(&self.two, SHARED_EDGE)
             && is_of(&self.third, THIRD)

@@ -4,7 +4,7 @@ use crate::arcs::indexes::has_junctions;
 use chains::used_arcs::{add_backwards, add_in_direction};
 use chains::{ArcRef, ArcTable, Piece, VisitIndex, add_pieces, cut_line, cut_ring};
 use faults::OutOfMemory;
-use refused_calls::calls::Lent;
+use refused_calls::calls::Borrowed;
 use refused_calls::comparing::{are_arcs, are_used, stand_at};
 use refused_calls::inputs::{built, is_of, positions, read};
 use refused_calls::outcome::Tally;
@@ -67,7 +67,7 @@ fn index_of_line(alloc: Global) -> Option<VisitIndex> {
     VisitIndex::from_junctions(alloc, positions(alloc, LOWER)?).ok()
 }
 
-impl Lent for Cutting {
+impl Borrowed for Cutting {
     fn is_as_before(&self) -> bool {
         is_of(&self.left, FIRST)
             && stand_at(self.ring.vertices(), VERTICES)

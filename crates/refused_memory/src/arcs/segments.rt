@@ -4,7 +4,7 @@ use crate::arcs::pieces::{OF_ARC, SHARED, are_parts};
 use chains::{Segment, cut_arc, maximal, maximal_with, segments_of};
 use faults::OutOfMemory;
 use grid::Pos;
-use refused_calls::calls::Lent;
+use refused_calls::calls::Borrowed;
 use refused_calls::comparing::are_arcs;
 use refused_calls::inputs::{built, is_of, positions};
 use refused_calls::outcome::Tally;
@@ -31,19 +31,19 @@ fn stops(alloc: Global) -> Option<BTreeSet<Pos>> {
     Some(stops)
 }
 
-impl Lent for Segments {
+impl Borrowed for Segments {
     fn is_as_before(&self) -> bool {
         is_of(&self.squares, SHARED_EDGE) && is_of(&self.first, FIRST) && self.stops.len() == 2
     }
 }
 
 /// The first square's arc, a free loop, is cut from the lesser of the stops on.
-fn arc(alloc: Global, lent: &Segments) -> Result<bool, OutOfMemory> {
-    let arcs = lent.first.arcs();
+fn arc(alloc: Global, borrowed: &Segments) -> Result<bool, OutOfMemory> {
+    let arcs = borrowed.first.arcs();
     if arcs.len() != 1 {
         return Ok(false);
     }
-    let pieces = cut_arc(alloc, arcs, 0, &lent.stops)?;
+    let pieces = cut_arc(alloc, arcs, 0, &borrowed.stops)?;
     Ok(are_parts(pieces.as_slice(), OF_ARC))
 }
 
@@ -57,15 +57,15 @@ fn is_shared_side(segments: &[Segment]) -> bool {
     }
 }
 
-fn list(alloc: Global, lent: &Segments) -> Result<bool, OutOfMemory> {
-    let segments = segments_of(alloc, lent.squares.arcs(), &[1])?;
+fn list(alloc: Global, borrowed: &Segments) -> Result<bool, OutOfMemory> {
+    let segments = segments_of(alloc, borrowed.squares.arcs(), &[1])?;
     Ok(is_shared_side(segments.as_slice()))
 }
 
 /// Over no segments there are no chains.
-fn chains(alloc: Global, lent: &Segments) -> Result<bool, OutOfMemory> {
+fn chains(alloc: Global, borrowed: &Segments) -> Result<bool, OutOfMemory> {
     let none = BTreeSet::new(alloc);
-    let table = maximal(alloc, &none, &lent.stops)?;
+    let table = maximal(alloc, &none, &borrowed.stops)?;
     Ok(are_arcs(&table, &[]))
 }
 
@@ -80,8 +80,8 @@ fn whole(alloc: Global) -> Result<Vec<Vec<Pos>>, OutOfMemory> {
 }
 
 /// The chain that stands, and no segments beside it.
-fn chains_beside(alloc: Global, lent: &Segments) -> Result<bool, OutOfMemory> {
-    let table = maximal_with(alloc, whole(alloc)?, &[], &lent.stops)?;
+fn chains_beside(alloc: Global, borrowed: &Segments) -> Result<bool, OutOfMemory> {
+    let table = maximal_with(alloc, whole(alloc)?, &[], &borrowed.stops)?;
     Ok(are_arcs(&table, &[SHARED]))
 }
 

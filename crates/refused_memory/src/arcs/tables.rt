@@ -2,7 +2,7 @@
 
 use chains::{ArcTable, Piece};
 use faults::OutOfMemory;
-use refused_calls::calls::Lent;
+use refused_calls::calls::Borrowed;
 use refused_calls::comparing::{are_lists_of, same_arcs, stand_at};
 use refused_calls::inputs::{built, is_of};
 use refused_calls::outcome::Tally;
@@ -18,7 +18,7 @@ struct Tables {
     triangle: Topology,
 }
 
-impl Lent for Tables {
+impl Borrowed for Tables {
     fn is_as_before(&self) -> bool {
         is_of(&self.squares, SHARED_EDGE) && is_of(&self.triangle, FREE_LOOP)
     }

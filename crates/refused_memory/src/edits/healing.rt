@@ -2,7 +2,7 @@
 
 use chains::{ArcRef, ArcTable};
 use faults::OutOfMemory;
-use refused_calls::calls::Lent;
+use refused_calls::calls::Borrowed;
 use refused_calls::comparing::{are_used, same_arcs};
 use refused_calls::inputs::{built, is_of, positions};
 use refused_calls::outcome::Tally;
@@ -67,7 +67,7 @@ impl HealedMaps {
     }
 }
 
-impl Lent for HealedMaps {
+impl Borrowed for HealedMaps {
     fn is_as_before(&self) -> bool {
         is_of(&self.two, SHARED_EDGE)
             && is_of(&self.fork, FORK)
@@ -95,7 +95,7 @@ fn ring(alloc: Global, healed: &HealedMaps) -> Result<bool, OutOfMemory> {
 
 /// Makes each call that heals arcs.
 pub(crate) fn test(rt: &HostRuntime, tally: &mut Tally) {
-    if let Some(healed) = tally.lent(rt, "healed arcs", "their maps", HealedMaps::of) {
+    if let Some(healed) = tally.borrowed(rt, "healed arcs", "their maps", HealedMaps::of) {
         calls!(tally.attempt(rt, "healed arcs", &healed);
             "split_heal::heal" => heal_first,
             "HealedArcs::line" => line,

@@ -3,7 +3,7 @@
 use faults::OutOfMemory;
 use refine::{Cut, MergeFault, Plan, PlanFault, Shard, Whole, merge_texts, run_plan};
 use refused_calls::calls;
-use refused_calls::calls::Lent;
+use refused_calls::calls::Borrowed;
 use refused_calls::outcome::{Answer, Tally};
 use refused_calls::texts::{FIRST, SECOND, THIRD, THREE};
 use std::alloc::Global;
@@ -54,7 +54,7 @@ impl Squares {
     }
 }
 
-impl Lent for Squares {
+impl Borrowed for Squares {
     fn is_as_before(&self) -> bool {
         are_texts(self.texts.as_slice()) && is_to_the_right(&self.plan)
     }
@@ -180,7 +180,7 @@ fn run_cuts(alloc: Global, squares: &Squares) -> Answer {
 
 /// Makes each call of the three squares.
 pub(crate) fn test(rt: &HostRuntime, tally: &mut Tally) {
-    if let Some(squares) = tally.lent(rt, "three squares", "their shards", Squares::of) {
+    if let Some(squares) = tally.borrowed(rt, "three squares", "their shards", Squares::of) {
         calls!(tally.ask(rt, "three squares", &squares);
             "refine::merge_texts" => merge,
             "merging::run_plan over Whole" => run_wholes,

@@ -3,7 +3,7 @@
 use faults::OutOfMemory;
 use refine::remove::remove;
 use refine::{JoinFault, Removal, remove_topology};
-use refused_calls::calls::Lent;
+use refused_calls::calls::Borrowed;
 use refused_calls::comparing::{are_used, same_map};
 use refused_calls::inputs::{built, is_of, read};
 use refused_calls::outcome::{Answer, Tally};
@@ -81,7 +81,7 @@ impl Removing {
     }
 }
 
-impl Lent for Removing {
+impl Borrowed for Removing {
     fn is_as_before(&self) -> bool {
         is_of(&self.whole, self.row.whole)
             && is_of(&self.topology, self.row.removed)
@@ -124,7 +124,7 @@ fn ask_by_topology(alloc: Global, removing: &Removing) -> Answer {
 /// Takes out what each row says.
 pub(crate) fn test(rt: &HostRuntime, tally: &mut Tally) {
     for row in ROWS {
-        if let Some(removing) = tally.lent(
+        if let Some(removing) = tally.borrowed(
             rt,
             row.title,
             "remove",

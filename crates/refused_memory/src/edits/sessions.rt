@@ -4,7 +4,7 @@ use faults::OutOfMemory;
 use grid::Grid;
 use refine::{Edit, EditsFault, JoinFault, Session};
 use refused_calls::calls;
-use refused_calls::calls::{Lent, change};
+use refused_calls::calls::{Borrowed, change};
 use refused_calls::comparing::same_map;
 use refused_calls::inputs::{built, is_of, read};
 use refused_calls::outcome::{Answer, Outcome, Tally};
@@ -61,7 +61,7 @@ impl Edits {
     }
 }
 
-impl Lent for Edits {
+impl Borrowed for Edits {
     fn is_as_before(&self) -> bool {
         match self.list.as_slice() {
             [Edit::Join(first), Edit::Join(second), Edit::Remove(map)] => {
@@ -182,7 +182,7 @@ fn test_text(alloc: Global, edits: &Edits) -> Outcome {
 
 /// Makes each call of sessions.
 pub(crate) fn test(rt: &HostRuntime, tally: &mut Tally) {
-    if let Some(edits) = tally.lent(rt, "a session", "its edits", Edits::of) {
+    if let Some(edits) = tally.borrowed(rt, "a session", "its edits", Edits::of) {
         tally.ask(rt, "a session", &edits, "Session::start", start);
         calls!(tally.test(rt, "a session", &edits);
             "Session::apply of a first join" => join,

@@ -9,7 +9,7 @@ use merging::{
 use refine::cut_all::AtOnce;
 use refine::{Cut, Whole, merge_borrowed_topologies, merge_topologies};
 use refused_calls::calls;
-use refused_calls::calls::Lent;
+use refused_calls::calls::Borrowed;
 use refused_calls::comparing::same_map;
 use refused_calls::inputs::{is_of, read};
 use refused_calls::outcome::{Answer, Tally};
@@ -53,7 +53,7 @@ impl<S: Shard> Pair<S> {
     }
 }
 
-impl<S: Shard> Lent for Pair<S> {
+impl<S: Shard> Borrowed for Pair<S> {
     fn is_as_before(&self) -> bool {
         same_map(&self.map, &self.copy) && self.left.grid() == self.grid
     }
@@ -241,10 +241,10 @@ fn test_cuts(rt: &HostRuntime, tally: &mut Tally, pair: &Pair<Cut>) {
 
 /// Makes each call of shards.
 pub(crate) fn test(rt: &HostRuntime, tally: &mut Tally) {
-    if let Some(pair) = tally.lent(rt, "whole shards", "the shards", Pair::<Whole>::of) {
+    if let Some(pair) = tally.borrowed(rt, "whole shards", "the shards", Pair::<Whole>::of) {
         test_wholes(rt, tally, &pair);
     }
-    if let Some(pair) = tally.lent(rt, "cut shards", "the shards", Pair::<Cut>::of) {
+    if let Some(pair) = tally.borrowed(rt, "cut shards", "the shards", Pair::<Cut>::of) {
         test_cuts(rt, tally, &pair);
     }
 }

@@ -5,7 +5,7 @@ use faults::OutOfMemory;
 use grid::Pos;
 use lines::items::Items;
 use refused_calls::calls;
-use refused_calls::calls::Lent;
+use refused_calls::calls::Borrowed;
 use refused_calls::comparing::{are_lists_of, same_arcs};
 use refused_calls::inputs::{built, is_of, positions};
 use refused_calls::outcome::{Answer, Tally};
@@ -79,7 +79,7 @@ impl ArcsOfRow {
     }
 }
 
-impl Lent for ArcsOfRow {
+impl Borrowed for ArcsOfRow {
     fn is_as_before(&self) -> bool {
         is_of(&self.topology, self.row.topology)
             && are_lists_of(self.arcs.as_slice(), self.topology.arcs())
@@ -115,7 +115,7 @@ fn mark(alloc: Global, arcs_of_row: &ArcsOfRow) -> Answer {
 }
 
 fn test_row(rt: &HostRuntime, tally: &mut Tally, row: &'static Row) {
-    let made = tally.lent(rt, row.title, "its arcs", |alloc| ArcsOfRow::of(alloc, row));
+    let made = tally.borrowed(rt, row.title, "its arcs", |alloc| ArcsOfRow::of(alloc, row));
     if let Some(arcs_of_row) = made {
         calls!(tally.ask(rt, row.title, &arcs_of_row); "is_noded" => read, "free_loops" => mark);
     }

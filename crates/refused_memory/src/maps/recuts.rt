@@ -1,7 +1,7 @@
 //! Arcs of two maps cut again.
 
 use faults::OutOfMemory;
-use refused_calls::calls::Lent;
+use refused_calls::calls::Borrowed;
 use refused_calls::comparing::{are_used, same_arcs};
 use refused_calls::inputs::{built, is_of};
 use refused_calls::outcome::{Answer, Tally};
@@ -63,7 +63,7 @@ impl Pair {
     }
 }
 
-impl Lent for Pair {
+impl Borrowed for Pair {
     fn is_as_before(&self) -> bool {
         is_of(&self.left, self.row.left) && is_of(&self.right, self.row.right)
     }
@@ -95,7 +95,7 @@ fn ask(alloc: Global, pair: &Pair) -> Answer {
 /// Cuts the arcs of each row again.
 pub(crate) fn test(rt: &HostRuntime, tally: &mut Tally) {
     for row in ROWS {
-        if let Some(pair) = tally.lent(rt, row.title, "recut", |alloc| Pair::of(alloc, row)) {
+        if let Some(pair) = tally.borrowed(rt, row.title, "recut", |alloc| Pair::of(alloc, row)) {
             tally.ask(rt, row.title, &pair, "split_heal::recut", ask);
         }
     }

@@ -5,7 +5,7 @@ use crate::maps::texts::SQUARES;
 use chains::ArcTable;
 use query::{ArcCounts, Kinds};
 use refused_calls::calls;
-use refused_calls::calls::Lent;
+use refused_calls::calls::Borrowed;
 use refused_calls::comparing::{are_arcs, same_map};
 use refused_calls::inputs::{built, is_of, read};
 use refused_calls::outcome::Tally;
@@ -82,7 +82,7 @@ impl Squares {
     }
 }
 
-impl Lent for Squares {
+impl Borrowed for Squares {
     fn is_as_before(&self) -> bool {
         same_map(&self.map, &self.copy)
             && is_of(&self.topology, SHARED_EDGE)

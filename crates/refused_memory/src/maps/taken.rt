@@ -1,6 +1,6 @@
 //! Topologies of texts: taken as they stand, once they are put into order, or built.
 
-use refused_calls::calls::Lent;
+use refused_calls::calls::Borrowed;
 use refused_calls::inputs::is_of;
 use refused_calls::outcome::{Answer, Tally};
 use refused_calls::texts::{FIRST, FREE_LOOP, SHARED_EDGE, THREE};
@@ -15,7 +15,7 @@ struct Row {
 }
 
 /// A row stays as it is.
-impl Lent for Row {
+impl Borrowed for Row {
     fn is_as_before(&self) -> bool {
         true
     }

@@ -2,7 +2,7 @@
 
 use faults::OutOfMemory;
 use refused_calls::calls;
-use refused_calls::calls::{Lent, change};
+use refused_calls::calls::{Borrowed, change};
 use refused_calls::comparing::same_map;
 use refused_calls::inputs::read;
 use refused_calls::outcome::{Answer, Outcome, Tally};
@@ -59,7 +59,7 @@ impl Maps {
     }
 }
 
-impl Lent for Maps {
+impl Borrowed for Maps {
     fn is_as_before(&self) -> bool {
         has(&self.with_layer, self, 0) && same_map(&self.other, &self.other_copy)
     }
@@ -132,7 +132,7 @@ fn union(_: Global, maps: &Maps) -> Answer {
 
 /// Makes each call of maps.
 pub(crate) fn test(rt: &HostRuntime, tally: &mut Tally) {
-    if let Some(maps) = tally.lent(rt, "maps of squares", "its maps", Maps::of) {
+    if let Some(maps) = tally.borrowed(rt, "maps of squares", "its maps", Maps::of) {
         calls!(tally.test(rt, "maps of squares", &maps);
             "FeatureMap::add_layer" => test_add_layer,
             "FeatureMap::insert" => test_insert,

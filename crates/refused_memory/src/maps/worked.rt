@@ -3,7 +3,7 @@
 use crate::maps::texts::{ROWS, Row};
 use crate::maps::{asking, readers, writers};
 use grid::Grid;
-use refused_calls::calls::Lent;
+use refused_calls::calls::Borrowed;
 use refused_calls::comparing::same_map;
 use refused_calls::inputs::is_of;
 use refused_calls::outcome::Tally;
@@ -66,7 +66,7 @@ impl Worked {
     }
 }
 
-impl Lent for Worked {
+impl Borrowed for Worked {
     fn is_as_before(&self) -> bool {
         self.geojson() == self.row.geojson.as_bytes()
             && self.text.as_slice() == self.row.topology.as_bytes()
@@ -76,7 +76,7 @@ impl Lent for Worked {
 }
 
 fn test_row(rt: &HostRuntime, tally: &mut Tally, row: &'static Row) {
-    let made = tally.lent(rt, row.title, "its map", |alloc| Worked::of(alloc, row));
+    let made = tally.borrowed(rt, row.title, "its map", |alloc| Worked::of(alloc, row));
     if let Some(worked) = made {
         readers::test(rt, tally, &worked);
         asking::test(rt, tally, &worked);

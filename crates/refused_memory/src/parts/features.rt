@@ -3,7 +3,7 @@ ghost use Rattle.lines.specs.declared.line.Line as the_line;
 ghost use Rattle.lines.specs.declared.ring.Ring as the_ring;
 
 use faults::OutOfMemory;
-use refused_calls::calls::Lent;
+use refused_calls::calls::Borrowed;
 use refused_calls::inputs::read;
 use refused_calls::layer;
 use refused_calls::outcome::Tally;
@@ -39,7 +39,7 @@ fn has_properties(feature: Option<&Feature>) -> bool {
     }
 }
 
-impl Lent for Features {
+impl Borrowed for Features {
     fn is_as_before(&self) -> bool {
         has_properties(self.feature())
     }

@@ -5,7 +5,7 @@ use geojson_io::reader::read_as_value;
 use geojson_io::token_reader::read_features;
 use grid::Grid;
 use reading::tokens::from_tokens::Stop;
-use refused_calls::calls::Lent;
+use refused_calls::calls::Borrowed;
 use refused_calls::comparing::{are_features, same_map};
 use refused_calls::inputs::read;
 use refused_calls::outcome::Tally;
@@ -37,7 +37,7 @@ struct Square {
     copy: FeatureMap,
 }
 
-impl Lent for Square {
+impl Borrowed for Square {
     fn is_as_before(&self) -> bool {
         same_map(&self.map, &self.copy)
     }

@@ -3,7 +3,7 @@
 use chains::ArcTable;
 use faults::OutOfMemory;
 use query::{Edges, QueryFault};
-use refused_calls::calls::Lent;
+use refused_calls::calls::Borrowed;
 use refused_calls::comparing::{are_arcs, are_neighbors, same_geometries};
 use refused_calls::inputs::{built, is_of};
 use refused_calls::outcome::Tally;
@@ -28,7 +28,7 @@ impl Squares {
     }
 }
 
-impl Lent for Squares {
+impl Borrowed for Squares {
     fn is_as_before(&self) -> bool {
         is_of(&self.topology, SHARED_EDGE)
     }

@@ -3,7 +3,7 @@
 use faults::{Fault, FaultKind, OutOfMemory, Step};
 use grid::Pos;
 use lines::position_filter::PositionFilter;
-use refused_calls::calls::Lent;
+use refused_calls::calls::Borrowed;
 use refused_calls::comparing::stand_at;
 use refused_calls::inputs::positions;
 use refused_calls::outcome::Tally;
@@ -51,7 +51,7 @@ fn value(alloc: Global) -> Option<Value> {
     Value::from_slice(alloc, PROPERTIES.as_bytes()).ok()
 }
 
-impl Lent for Values {
+impl Borrowed for Values {
     fn is_as_before(&self) -> bool {
         stand_at(self.places.as_slice(), SQUARE)
             && stand_at(self.line.positions(), SQUARE)

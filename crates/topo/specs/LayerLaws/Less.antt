@@ -6,7 +6,7 @@ use Rattle.lines.specs.Turned.{position_cmp}
 use Rattle.shapes.specs.Maps.{Features, Layers, features_at}
 use Rattle.shapes.specs.Sets as set
 use Rattle.shapes.specs.declared.feature.Feature.{Feature}
-use Rattle.theory.specs.Healing.{Starts, marked, rejoined, ring_rejoined}
+use Rattle.theory.specs.Healing.{Starts, marked, healed_list, healed_ring_list}
 use Rattle.topo.specs.Parts.{LayerParts}
 use Rattle.topo.specs.declared.geom.Geom.{Geom}
 use Rattle.topo.specs.Rewritten.{geometry_rewritten, layer_rewritten}
@@ -51,9 +51,9 @@ layers_left (marks ∷ more) [] = []
 layers_left (marks ∷ more) (l ∷ ls) = record { name = l.name; geometries = marked marks l.geometries } ∷ layers_left more ls
 
 -- a geometry by the arcs that the old ones are joined to: its id and its properties stay
-abbrev pub geometry_rejoined : List (List Pos) → Starts → Geom → Geom
-geometry_rejoined arcs starts = geometry_rewritten (rejoined starts 0) (ring_rejoined position_cmp arcs starts)
+abbrev pub geometry_over_healed : List (List Pos) → Starts → Geom → Geom
+geometry_over_healed arcs starts = geometry_rewritten (healed_list starts 0) (healed_ring_list position_cmp arcs starts)
 
 -- a layer of such geometries
-abbrev pub layer_rejoined : List (List Pos) → Starts → LayerParts → LayerParts
-layer_rejoined arcs starts = layer_rewritten (rejoined starts 0) (ring_rejoined position_cmp arcs starts)
+abbrev pub layer_over_healed : List (List Pos) → Starts → LayerParts → LayerParts
+layer_over_healed arcs starts = layer_rewritten (healed_list starts 0) (healed_ring_list position_cmp arcs starts)

@@ -115,7 +115,7 @@ fn append(alloc: Global, list: &mut Vec<Pos>, arc: &[Pos]) -> Result<(), Fault>
     }
 }
 
-// The same of the arc reversed.
+// Appends the arc reversed, but for the position where it meets the list.
 fn append_reversed(alloc: Global, list: &mut Vec<Pos>, arc: &[Pos]) -> Result<(), Fault>
     ensures meets { OnOk result (meets list.old.items (reverse arc.now) ≡ true) }
     ensures ok { OnOk result (list.new.items ≡ onto list.old.items (reverse arc.now)) }

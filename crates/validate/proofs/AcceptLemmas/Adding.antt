@@ -11,12 +11,12 @@ use Rattle.theory.proofs.Lists.{Has-append, Has-append_left, Has-append_right}
 use Rattle.arcs.specs.Arcs.{Arcs}
 use Rattle.chains.specs.OfArcs.{table_as_map}
 use Rattle.chains.proofs.Layers.{gathered-append}
-use Rattle.validate.specs.Lists.{LineStands, RingStands}
+use Rattle.validate.specs.Lists.{IsValidLine, IsValidRing}
 use Rattle.arcs.specs.ArcMarks.{marks_set}
 use Rattle.validate.specs.ArcEnds.{EndsMeet, line_ends}
-use Rattle.validate.specs.Validity.{ListsStand}
+use Rattle.validate.specs.Validity.{AreValidLists}
 use Rattle.arcs.proofs.SetMarks.{marks_set_long, other_mark, set_mark, uses_or}
-use Rattle.validate.specs.Accept.Added.{AreAdded, EachStands, IsUsed}
+use Rattle.validate.specs.Accept.Added.{AreAdded, EachIsValid, IsUsed}
 use Rattle.validate.specs.declared.accept.lists.ListsSeen.{ListsSeen}
 
 -- lists used by some of all
@@ -34,19 +34,19 @@ used_parted l k m n i (us, h, u) =
     ]
 
 module _ (t : Arcs) where
-  stand_before : (l k m n : List (List ArcRef)) → EachStands t (l ++ k) (m ++ n) → EachStands t l m
+  stand_before : (l k m n : List (List ArcRef)) → EachIsValid t (l ++ k) (m ++ n) → EachIsValid t l m
   stand_before l k m n st = record {
     each_line = λ us h. st.each_line us (Has-append_left us l k h);
     each_ring = λ us h. st.each_ring us (Has-append_left us m n h);
   }
 
-  stand_behind : (l k m n : List (List ArcRef)) → EachStands t (l ++ k) (m ++ n) → EachStands t k n
+  stand_behind : (l k m n : List (List ArcRef)) → EachIsValid t (l ++ k) (m ++ n) → EachIsValid t k n
   stand_behind l k m n st = record {
     each_line = λ us h. st.each_line us (Has-append_right us l k h);
     each_ring = λ us h. st.each_ring us (Has-append_right us m n h);
   }
 
-  stand_both : (l k m n : List (List ArcRef)) → EachStands t l m → EachStands t k n → EachStands t (l ++ k) (m ++ n)
+  stand_both : (l k m n : List (List ArcRef)) → EachIsValid t l m → EachIsValid t k n → EachIsValid t (l ++ k) (m ++ n)
   stand_both l k m n st su = record {
     each_line = λ us h. elim (Has-append us l k h) [ inl a ↦ st.each_line us a | inr a ↦ su.each_line us a ];
     each_ring = λ us h. elim (Has-append us m n h) [ inl a ↦ st.each_ring us a | inr a ↦ su.each_ring us a ];
@@ -107,14 +107,14 @@ module _ (t : Arcs) where
   alone us vs (inl e) = e
   alone us vs (inr h) = absurd h
 
-  one_line : (us : List ArcRef) → LineStands t.arcs (table_as_map t) us → EachStands t (us ∷ []) []
-  one_line us st = record { each_line = λ vs h. subst (LineStands t.arcs (table_as_map t)) (sym (alone us vs h)) st; each_ring = λ vs h. absurd h }
+  one_line : (us : List ArcRef) → IsValidLine t.arcs (table_as_map t) us → EachIsValid t (us ∷ []) []
+  one_line us st = record { each_line = λ vs h. subst (IsValidLine t.arcs (table_as_map t)) (sym (alone us vs h)) st; each_ring = λ vs h. absurd h }
 
-  one_ring : (us : List ArcRef) → RingStands position_cmp t.arcs us → EachStands t [] (us ∷ [])
-  one_ring us st = record { each_line = λ vs h. absurd h; each_ring = λ vs h. subst (RingStands position_cmp t.arcs) (sym (alone us vs h)) st }
+  one_ring : (us : List ArcRef) → IsValidRing position_cmp t.arcs us → EachIsValid t [] (us ∷ [])
+  one_ring us st = record { each_line = λ vs h. absurd h; each_ring = λ vs h. subst (IsValidRing position_cmp t.arcs) (sym (alone us vs h)) st }
 
   -- one line's list is added, or it doesn't stand
-  pub line_added : (us : List ArcRef) (p q : Pos) (s u : ListsSeen) → LineStands t.arcs (table_as_map t) us → line_ends t.arcs us ≡ p ∷ (q ∷ []) → u.used ≡ marks_set true s.used us →
+  pub line_added : (us : List ArcRef) (p q : Pos) (s u : ListsSeen) → IsValidLine t.arcs (table_as_map t) us → line_ends t.arcs us ≡ p ∷ (q ∷ []) → u.used ≡ marks_set true s.used us →
       u.ends.items ≡ (s.ends.items ++ (p ∷ [])) ++ (q ∷ []) → AreAdded t (us ∷ []) [] true s u
   line_added us p q s u st run is told = record {
     len = ap length is ∙ marks_set_long true s.used us;
@@ -128,7 +128,7 @@ module _ (t : Arcs) where
         ∙ ap (λ z. s.ends.items ++ z) (sym run ∙ sym (append-nil (line_ends t.arcs us)));
   }
 
-  pub line_not : (us : List ArcRef) (s u : ListsSeen) → ((false ≡ true) ↔ LineStands t.arcs (table_as_map t) us) → length u.used ≡ length s.used → AreAdded t (us ∷ []) [] false s u
+  pub line_not : (us : List ArcRef) (s u : ListsSeen) → ((false ≡ true) ↔ IsValidLine t.arcs (table_as_map t) us) → length u.used ≡ length s.used → AreAdded t (us ∷ []) [] false s u
   line_not us s u n size = record {
     len = size;
     stand = ((λ f. absurd cc), (λ st. n.1 (st.each_line us (inl refl))));
@@ -137,7 +137,7 @@ module _ (t : Arcs) where
   }
 
   -- the same of a ring's list
-  pub ring_added : (us : List ArcRef) (b : Bool) (s u : ListsSeen) → ((b ≡ true) ↔ RingStands position_cmp t.arcs us) → u.used ≡ marks_set true s.used us → u.ends.items ≡ s.ends.items →
+  pub ring_added : (us : List ArcRef) (b : Bool) (s u : ListsSeen) → ((b ≡ true) ↔ IsValidRing position_cmp t.arcs us) → u.used ≡ marks_set true s.used us → u.ends.items ≡ s.ends.items →
       AreAdded t [] (us ∷ []) b s u
   ring_added us b s u st is same = record {
     len = ap length is ∙ marks_set_long true s.used us;
@@ -202,7 +202,7 @@ module _ (t : Arcs) where
         let f : false ≡ true =
         sym (get_or-replicate n k false false (omega (arith, lt, old_size, size))) ∙ sym (ap (λ z. get_or z k false) none) ∙ e in cc
 
-    pub some_not : (b : Bool) → b ≡ false → AreAdded t ls ms b s u → (false ≡ true) ↔ ListsStand t ls ms
+    pub some_not : (b : Bool) → b ≡ false → AreAdded t ls ms b s u → (false ≡ true) ↔ AreValidLists t ls ms
     some_not b e h = (
       (λ f. absurd cc),
       (λ st. absurd (let f : false ≡ true = sym e ∙ h.stand.1 (record { each_line = st.each_line; each_ring = st.each_ring }) in cc)),
@@ -223,16 +223,16 @@ module _ (t : Arcs) where
             let g = there t.arcs k (subst (λ z. k < z) old_size old) in
             (h.used e k old).1 (inr (each_used k g.0 g.1))
 
-    pub not_used : (b all : Bool) → b ≡ true → AreAdded t ls ms b s u → all ≡ list_all (λ b. b) u.used → all ≡ false → (false ≡ true) ↔ ListsStand t ls ms
+    pub not_used : (b all : Bool) → b ≡ true → AreAdded t ls ms b s u → all ≡ list_all (λ b. b) u.used → all ≡ false → (false ≡ true) ↔ AreValidLists t ls ms
     not_used b all e h is unset = (
       (λ f. absurd cc),
       (λ st. absurd (let f : false ≡ true = sym unset ∙ is ∙ used_all b e h st.used in cc)),
     )
 
     pub all_told : (b all meet : Bool) (ps : List Pos) → b ≡ true → AreAdded t ls ms b s u → s.ends.items ≡ [] → all ≡ list_all (λ b. b) u.used → all ≡ true →
-        ps ≡ u.ends.items → ((meet ≡ true) ↔ EndsMeet t.arcs (table_as_map t) ps) → (meet ≡ true) ↔ ListsStand t ls ms
-    all_told b all meet ps e h begun is each_set lent told =
-        let same : ps ≡ gathered (line_ends t.arcs) ls = lent ∙ h.ends e ∙ ap (λ z. z ++ gathered (line_ends t.arcs) ls) begun in (
+        ps ≡ u.ends.items → ((meet ≡ true) ↔ EndsMeet t.arcs (table_as_map t) ps) → (meet ≡ true) ↔ AreValidLists t ls ms
+    all_told b all meet ps e h begun is each_set borrowed told =
+        let same : ps ≡ gathered (line_ends t.arcs) ls = borrowed ∙ h.ends e ∙ ap (λ z. z ++ gathered (line_ends t.arcs) ls) begun in (
           (λ f. record {
             each_line = (h.stand.0 e).each_line;
             each_ring = (h.stand.0 e).each_ring;

@@ -25,7 +25,7 @@ use Rattle.topo.proofs.TakenInOrder.{entries_forms}
 use Rattle.validate.specs.Validity.{AreTurnedListsOf, StitchAround}
 use Rattle.validate.proofs.Together.{lists_are_the_maps}
 use Rattle.validate.specs.Accept.Laws as law
-use Rattle.validate.specs.Accept.Laws.{AreStitched, IsStitched, LayersStand}
+use Rattle.validate.specs.Accept.Laws.{AreStitched, IsStitched, AreValidLayers}
 use Rattle.validate.specs.Accept.Lists.{layer_lines, layer_rings, layers_lines, layers_rings}
 use Rattle.topo.specs.BodyLists.{body_lines, body_rings}
 use Rattle.validate.proofs.AcceptLemmas.PairsGathered.{pairs_gathered, pairs_joined, pairs_mapped, pairs_parted, pairs_unjoined, pairs_with}

@@ -33,7 +33,7 @@ use Rattle.topo.proofs.Pairs.{Pairwise-weaker}
 use Rattle.validate.specs.Validity.{AreListsOf, AreTurnedListsOf, StitchAround}
 use Rattle.validate.proofs.Together.{lists_are_the_maps, lists_make_a_map, made}
 use Rattle.validate.specs.Accept.Laws as law
-use Rattle.validate.specs.Accept.Laws.{HaveI64, LayersStand}
+use Rattle.validate.specs.Accept.Laws.{HaveI64, AreValidLayers}
 use Rattle.validate.specs.Accept.Lists.{layer_lines, layer_rings, layers_lines, layers_rings}
 use Rattle.topo.specs.BodyLists.{body_lines, body_rings}
 
@@ -64,7 +64,7 @@ begun arcs lines rings g are = record {
   of_rings = Pairwise-weaker (λ r us. StitchTo arcs us (closed r)) (λ r us. StitchAround arcs us r) (λ r us s. (r, ([], r, refl, sym (append-nil r)), s)) g.rings rings are.of_rings;
 }
 
-module _ (t : Arcs) (ls : List LayerParts) (st : LayersStand t ls) where
+module _ (t : Arcs) (ls : List LayerParts) (st : AreValidLayers t ls) where
   a_map : (g : Geometry Pos) × AreListsOf t.arcs (layers_lines ls) (layers_rings ls) g
   a_map = lists_make_a_map t st.apart (layers_lines ls) (layers_rings ls) st.lists
 

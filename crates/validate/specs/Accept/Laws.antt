@@ -9,21 +9,21 @@ use Rattle.shapes.specs.Maps.{Features, Layers}
 use Rattle.shapes.specs.Parts.{spelled_text}
 use Rattle.shapes.specs.Sets as set
 use Rattle.theory.specs.Lists.{Pairwise}
-use Rattle.theory.specs.Validity.{ArcsApart}
+use Rattle.theory.specs.Validity.{ArcsAreNoded}
 use Rattle.arcs.specs.Arcs.{Arcs}
 use Rattle.chains.specs.OfArcs.{table_as_map}
 use Rattle.topo.specs.Features.{AreFeaturesOf}
 use Rattle.topo.specs.GeometryOrder.{LayersHaveFeatures}
 use Rattle.topo.specs.OfMap.{ArePartsOf}
 use Rattle.topo.specs.Parts.{LayerParts}
-use Rattle.validate.specs.Validity.{ListsStand}
+use Rattle.validate.specs.Validity.{AreValidLists}
 use Rattle.validate.specs.Accept.Lists.{layers_lines, layers_rings}
 use Rattle.validate.specs.Accept.Order.{InOrder}
 
 -- the arcs are apart, and the lists of the layers are valid over them
-pub record LayersStand (t : Arcs) (ls : List LayerParts) : Type 0 where
-  pub apart : ArcsApart position_cmp t.arcs (table_as_map t)
-  pub lists : ListsStand t (layers_lines ls) (layers_rings ls)
+pub record AreValidLayers (t : Arcs) (ls : List LayerParts) : Type 0 where
+  pub apart : ArcsAreNoded position_cmp t.arcs (table_as_map t)
+  pub lists : AreValidLists t (layers_lines ls) (layers_rings ls)
 
 -- each id that is a number is one of i64
 abbrev pub HaveI64 : List LayerParts → Type 0
@@ -40,12 +40,12 @@ AreStitched arcs m ls = Pairwise (IsStitched arcs) (map.entries m) ls
 
 -- where layers are valid, each geometry stitches to a feature
 abbrev pub GeometriesHaveFeatures : Type 0
-GeometriesHaveFeatures = (t : Arcs) (ls : List LayerParts) → LayersStand t ls → HaveI64 ls → LayersHaveFeatures t.arcs ls
+GeometriesHaveFeatures = (t : Arcs) (ls : List LayerParts) → AreValidLayers t ls → HaveI64 ls → LayersHaveFeatures t.arcs ls
 
 -- in order they stitch to a map
 abbrev pub LayersMakeAMap : Type 0
-LayersMakeAMap = (t : Arcs) (ls : List LayerParts) → LayersStand t ls → HaveI64 ls → InOrder t.arcs ls → (m : Layers) × AreStitched t.arcs m ls
+LayersMakeAMap = (t : Arcs) (ls : List LayerParts) → AreValidLayers t ls → HaveI64 ls → InOrder t.arcs ls → (m : Layers) × AreStitched t.arcs m ls
 
 -- and the table and the layers are the parts of that map's topology
 abbrev pub LayersAreTheMaps : Type 0
-LayersAreTheMaps = (t : Arcs) (ls : List LayerParts) → LayersStand t ls → (m : Layers) → AreStitched t.arcs m ls → ArePartsOf m t ls
+LayersAreTheMaps = (t : Arcs) (ls : List LayerParts) → AreValidLayers t ls → (m : Layers) → AreStitched t.arcs m ls → ArePartsOf m t ls

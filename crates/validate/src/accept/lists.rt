@@ -1,5 +1,5 @@
 //! Whether the lists of used arcs of layers are valid over a table of arcs.
-ghost use Rattle.validate.specs.Validity.{ListsStand};
+ghost use Rattle.validate.specs.Validity.{AreValidLists};
 ghost use Rattle.std.specs.Prelude.{◌≡◌, ◌↔◌, [], ◌∷◌, length, true, IfOk};
 ghost use Rattle.validate.specs.Accept.Added.{AreAdded};
 ghost use Rattle.validate.specs.Accept.Lists.{layers_lines, layers_rings, lines_of, rings_of};
@@ -112,7 +112,7 @@ pub fn lists_are_valid(
     table: &ArcTable,
     layers: &[Layer],
 ) -> Result<bool, OutOfMemory>
-    ensures { IfOk result (λ b. (b ≡ true) ↔ ListsStand table.now (layers_lines layers.now) (layers_rings layers.now)) }
+    ensures { IfOk result (λ b. (b ≡ true) ↔ AreValidLists table.now (layers_lines layers.now) (layers_rings layers.now)) }
 {
     let used = ArcsUsed::none(alloc, table.len())?;
     let mut seen = ListsSeen {

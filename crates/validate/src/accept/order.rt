@@ -61,7 +61,7 @@ fn geometries_rise(
     Ok(true)
 }
 
-/// The same for the geometries of each layer.
+/// Whether the geometries of each layer are in order.
 fn each_rises(alloc: Global, table: &ArcTable, layers: &[Layer]) -> Result<bool, OutOfMemory>
     requires noded { AreNoded table.now.arcs }
     requires there { LayersHaveFeatures table.now.arcs layers.now }

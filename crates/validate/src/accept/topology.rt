@@ -5,7 +5,7 @@ ghost use Rattle.std.specs.Prelude.{◌≡◌, ◌↔◌, ◌<◌, ◌^◌, leng
 ghost use Rattle.validate.specs.Accept.Laws.{HaveI64};
 ghost use Rattle.validate.specs.Accept.Accepted.{IfNot, IfWhole, IsWhole};
 ghost use Rattle.validate.specs.Accept.Topology as spec;
-ghost use Rattle.validate.specs.Accept.Topology.{StandInOrder};
+ghost use Rattle.validate.specs.Accept.Topology.{AreValidInOrder};
 ghost use Rattle.theory.specs.Arcs.{Ascends};
 ghost use Rattle.topo.specs.OfMap.{ArePartsOf, IsOf};
 
@@ -53,7 +53,7 @@ fn are_valid_in_order(
 ) -> Result<bool, OutOfMemory>
     requires sorted { Ascends list_cmp table.now.arcs }
     requires ids { HaveI64 layers.now }
-    ensures { IfOk result (λ b. (b ≡ true) ↔ StandInOrder table.now layers.now) }
+    ensures { IfOk result (λ b. (b ≡ true) ↔ AreValidInOrder table.now layers.now) }
 {
     if !lists_are_valid(alloc, table, layers)? {
         return Ok(false);
@@ -78,7 +78,7 @@ fn of_table(
     ensures layers { IfOk result (λ o. IfWhole o (λ t. t.layers ≡ layers.items)) }
     ensures of_map { IfOk result (λ o. IfWhole o (λ t. (m : Layers) → ArePartsOf m t.arcs t.layers → IsOf m t)) }
     ensures few { IfOk result (λ o. IfWhole o (λ t. length t.arcs.arcs < 2 ^ 63)) }
-    ensures stand { IfOk result (λ o. IsWhole o ↔ StandInOrder table layers.items) }
+    ensures stand { IfOk result (λ o. IsWhole o ↔ AreValidInOrder table layers.items) }
     ensures back { IfOk result (λ o. IfNot o (λ cs ls. (cs ≡ table.arcs) × (ls ≡ layers.items))) }
 {
     if !are_valid_in_order(alloc, &table, &layers)? {
@@ -107,7 +107,7 @@ pub fn take(
     ensures layers { IfOk result (λ o. IfWhole o (λ t. t.layers ≡ layers.items)) }
     ensures of_map { IfOk result (λ o. IfWhole o (λ t. (m : Layers) → ArePartsOf m t.arcs t.layers → IsOf m t)) }
     ensures few { IfOk result (λ o. IfWhole o (λ t. length t.arcs.arcs < 2 ^ 63)) }
-    ensures stand { IfOk result (λ o. IsWhole o ↔ StandInOrder (spec.table_of arcs.items layers.items) layers.items) }
+    ensures stand { IfOk result (λ o. IsWhole o ↔ AreValidInOrder (spec.table_of arcs.items layers.items) layers.items) }
     ensures back { IfOk result (λ o. IfNot o (λ cs ls. (cs ≡ arcs.items) × (ls ≡ layers.items))) }
 {
     if !arcs_in_order(&arcs) {

@@ -368,7 +368,7 @@ impl Cut {
             "ArcTable::find" => finds(&self.topology, self.pieces.as_slice()),
             "arcs::turn_ring" => turns(&self.topology),
             "VisitIndex::is_junction" => has_junctions(&self.index),
-            "what was lent" => is_of(&self.topology, SHARED_EDGE),
+            "what was borrowed" => is_of(&self.topology, SHARED_EDGE),
         );
     }
 }

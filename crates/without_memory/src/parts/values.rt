@@ -210,7 +210,7 @@ impl Features {
             "FeatureMap::layer" => has_layer(&self.map),
             "FeatureMap::layers" => has_one_layer(&self.map),
             "FeatureMap::new" => is_empty_map(rt.alloc()),
-            "what was lent" => only(&self.map) == only(&self.same),
+            "what was borrowed" => only(&self.map) == only(&self.same),
         );
     }
 }

@@ -2,7 +2,7 @@ use Rattle.std.proofs.Common.{◌+◌, ◌∷◌, drop, ap, sym, ◌∙◌}
 use Rattle.std.specs.Ordering.{is_lt}
 use Rattle.arcs.specs.Stored.{rises}
 use Rattle.lines.proofs.Dropping.{drop_item}
-use Rattle.arcs.proofs.AsTheyStand.{rising_step, rising_stop}
+use Rattle.arcs.proofs.ArcsInOrder.{rising_step, rising_stop}
 use Rattle.arcs.proofs.ordered.is_rising.Goals as goal
 
 pub returns-then-not-is_lt : goal.returns-then-not-is_lt

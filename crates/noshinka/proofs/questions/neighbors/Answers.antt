@@ -6,7 +6,7 @@ use Rattle.noshinka.proofs.questions.neighbors.Goals as goal
 pub returns-clause-neighbors : goal.returns-clause-neighbors
 returns-clause-neighbors c =
     IfOk-weaker c.text_of_neighbors.result _ _
-    (λ t is. neighbors_answer c.args.options.now c.args.text.now c.args.layer.now t.items c.in_ok-topology.topology (sym c.if-not-are_neighbors_choices.ensures) c.in_ok-topology.ensures.means c.in_ok-layer.ensures.name c.in_ok-by.ensures.name is)
+    (λ t is. neighbors_answer c.args.options.now c.args.text.now c.args.layer.now t.items c.in_ok-topology.topology (sym c.if-not-are_neighbors_options.ensures) c.in_ok-topology.ensures.means c.in_ok-layer.ensures.name c.in_ok-by.ensures.name is)
     c.text_of_neighbors.ensures.text
 
 pub returns-clause-refused : goal.returns-clause-refused

@@ -4,7 +4,7 @@ use Rattle.topo.specs.Features.{HasFeature}
 use Rattle.topo.specs.LayerLaws.Leaving.{others}
 use Rattle.topo.proofs.LayerLawsLemmas.Passing.{at_place}
 use Rattle.refine.specs.Difference.{by_lists, cut_again}
-use Rattle.refine.proofs.DifferenceTold.{left_one, passed_one, stay_there}
+use Rattle.refine.proofs.WhatDiffers.{left_one, passed_one, stay_there}
 use Rattle.refine.proofs.difference.geometries_left.Goals as goal
 
 pub is_among-requires-clause-there : goal.is_among-requires-clause-there

@@ -3,7 +3,7 @@ use Rattle.topo.specs.GeometryOrder.Noded.{AreNoded}
 use Rattle.topo.specs.GeometryOrder.Noted.{IsNotedFor}
 use Rattle.topo.specs.Features.{HasFeature}
 use Rattle.topo.specs.GeometryOrder.{HaveFeatures}
-use Rattle.refine.proofs.DifferenceTold.{first_by_lists, on_by_lists}
+use Rattle.refine.proofs.WhatDiffers.{first_by_lists, on_by_lists}
 use Rattle.refine.proofs.difference.is_among.Goals as goal
 
 pub is_first_left-requires-clause-there : goal.is_first_left-requires-clause-there

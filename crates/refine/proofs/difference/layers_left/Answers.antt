@@ -4,8 +4,8 @@ use Rattle.topo.specs.GeometryOrder.{HaveFeatures, LayersHaveFeatures}
 use Rattle.topo.specs.LayerLaws.CutLayers.{layer_cmp, tied}
 use Rattle.topo.proofs.LayerLawsLemmas.MergedSteps.{all_behind, tied_has}
 use Rattle.refine.specs.Difference.{geometries_in, layers_without}
-use Rattle.refine.specs.Lent.{all_lent, lent}
-use Rattle.refine.proofs.DifferenceTold.{in_have, next_layer}
+use Rattle.refine.specs.Borrowed.{all_borrowed, borrowed}
+use Rattle.refine.proofs.WhatDiffers.{in_have, next_layer}
 use Rattle.refine.proofs.difference.layers_left.Goals as goal
 
 pub loop-layer-init : goal.loop-layer-init
@@ -25,13 +25,13 @@ loop-layer-preserved c =
     let l = c.layer-item.result in
     let ls = drop (i + 1) c.args.layers.now in
     let ks = c.loop-layer.others.items in
-    let as' = all_lent c.loop-layer.left.items in
+    let as' = all_borrowed c.loop-layer.left.items in
     record {
       noted = c.layer_left.ensures.noted;
       there = subst (LayersHaveFeatures arcs) (sym c.in_ok-other.ensures.others) (all_behind layer_cmp l (λ k. HaveFeatures arcs k.geometries) ks c.loop-layer.invariant.there);
-      made = next_layer c.args.both.now l (lent c.in_ok-layer_left.field-0) ls ks c.put_layers_before.new.others.items as' (all_lent c.push.new.self.items)
+      made = next_layer c.args.both.now l (borrowed c.in_ok-layer_left.field-0) ls ks c.put_layers_before.new.others.items as' (all_borrowed c.push.new.self.items)
           (layers_without c.args.both.now c.args.layers.now c.args.removed.items) c.in_ok-other.other c.in_ok-other.ensures.tied c.in_ok-other.ensures.others
           c.in_ok-layer_left.ensures.left
-          (ap all_lent c.in_ok-push.ensures.items ∙ map-append lent c.loop-layer.left.items (c.in_ok-layer_left.field-0 ∷ []))
+          (ap all_borrowed c.in_ok-push.ensures.items ∙ map-append borrowed c.loop-layer.left.items (c.in_ok-layer_left.field-0 ∷ []))
           (ap (λ w. as' ++ layers_without c.args.both.now w ks) (sym (drop_more c.args.layers.now i l c.loop-layer-test.true ∙ ap (λ y. y ∷ ls) (sym c.layer-item.is))) ∙ c.loop-layer.invariant.made);
     }

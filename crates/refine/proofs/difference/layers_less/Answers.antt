@@ -1,5 +1,5 @@
 use Rattle.std.proofs.Common.{◌∙◌, refl}
-use Rattle.refine.proofs.DifferenceTold.{told_left, told_noded, told_pass, told_right}
+use Rattle.refine.proofs.WhatDiffers.{told_left, told_noded, told_pass, told_right}
 use Rattle.refine.proofs.difference.layers_less.Goals as goal
 
 pub layers_left-requires-clause-noded : goal.layers_left-requires-clause-noded

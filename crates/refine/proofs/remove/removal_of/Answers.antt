@@ -1,6 +1,6 @@
 use Rattle.std.proofs.Common.{◌∙◌, ap, refl}
 use Rattle.topo.specs.LayerLaws.Less.{less}
-use Rattle.refine.proofs.LeftTold.{made_of, parts_made, pieces_made}
+use Rattle.refine.proofs.WhatIsLeft.{made_of, parts_made, pieces_made}
 use Rattle.refine.proofs.remove.removal_of.Goals as goal
 
 pub from_parts_without_bbox-topology-requires : goal.from_parts_without_bbox-topology-requires

@@ -1,6 +1,6 @@
 use Rattle.std.proofs.Common.{map, refl}
 use Rattle.arcs.specs.Table.{located}
-use Rattle.split_heal.proofs.Heals.{rejoin_is}
+use Rattle.split_heal.proofs.Heals.{heal_is}
 use Rattle.split_heal.proofs.healing.heal.Goals as goal
 
 pub returns : goal.returns
@@ -8,7 +8,7 @@ returns c =
     let joined = c.in_ok-joined.joined in
     let made = c.in_ok-made.made in
     let both =
-    rejoin_is c.args.old.now c.args.kept.now c.args.ends.now c.in_ok-chosen.chosen.items c.deref.result.now c.in_ok-chosen.ensures c.deref.ensures.value
+    heal_is c.args.old.now c.args.kept.now c.args.ends.now c.in_ok-chosen.chosen.items c.deref.result.now c.in_ok-chosen.ensures c.deref.ensures.value
     c.in_ok-meeting.meeting c.in_ok-meeting.ensures
     c.in_ok-runs.runs.items c.in_ok-runs.ensures
     joined.pieces.items joined.lists.items c.in_ok-joined.ensures.pieces c.in_ok-joined.ensures.lists

@@ -1,4 +1,4 @@
-use Rattle.topo_io.proofs.AsItStands.{valid_texts_mean_a_map}
+use Rattle.topo_io.proofs.ValidTextsMeanAMap.{valid_texts_mean_a_map}
 use Rattle.topo_io.proofs.laws.valid_texts_mean_a_map.Goals as goal
 
 pub returns : goal.returns

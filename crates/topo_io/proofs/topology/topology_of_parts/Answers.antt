@@ -1,4 +1,4 @@
-use Rattle.topo_io.proofs.AsItStands.{whole_means}
+use Rattle.topo_io.proofs.ValidTextsMeanAMap.{whole_means}
 use Rattle.topo_io.proofs.topology.topology_of_parts.Goals as goal
 
 pub returns-in-Whole-clause-means : goal.returns-in-Whole-clause-means

@@ -1,6 +1,6 @@
 use Rattle.std.proofs.Common.{IfSome, subst}
 use Rattle.topo_io.specs.Means.{IsTopologyOfParts}
-use Rattle.topo_io.proofs.AsItStands.{said_ids}
+use Rattle.topo_io.proofs.ValidTextsMeanAMap.{said_ids}
 use Rattle.topo_io.proofs.topology.topology_or_fault.Goals as goal
 
 pub topology_of_parts-requires : goal.topology_of_parts-requires

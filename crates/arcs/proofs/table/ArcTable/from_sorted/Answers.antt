@@ -1,6 +1,6 @@
 use Rattle.std.proofs.Common.{map, ap, sym, ◌∙◌}
 use Rattle.arcs.specs.Stored.{loops_of, positions_of, rises}
-use Rattle.arcs.proofs.AsTheyStand.{sorted_told, with_marks_positions, with_marks_loops}
+use Rattle.arcs.proofs.ArcsInOrder.{sorted_told, with_marks_positions, with_marks_loops}
 use Rattle.arcs.proofs.Extents.{alone}
 use Rattle.arcs.proofs.table.ArcTable.from_sorted.Goals as goal
 

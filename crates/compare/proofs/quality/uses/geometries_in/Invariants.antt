@@ -1,8 +1,8 @@
 use Rattle.std.proofs.Common.{◌≡◌, ◌++◌, drop}
 use Rattle.theory.specs.Lists.{gathered}
-use Rattle.compare.specs.Quality.Uses.{lent}
+use Rattle.compare.specs.Quality.Uses.{borrowed}
 use Rattle.compare.proofs.quality.uses.geometries_in.Given as goal
 
 abbrev pub invariant-loop-layer : goal.invariant-loop-layer
 invariant-loop-layer l =
-    lent l.noted.items ++ gathered (λ k. k.geometries) (drop l.layer-index l.fn.layers) ≡ gathered (λ k. k.geometries) l.fn.layers
+    borrowed l.noted.items ++ gathered (λ k. k.geometries) (drop l.layer-index l.fn.layers) ≡ gathered (λ k. k.geometries) l.fn.layers

@@ -1,5 +1,5 @@
 use Rattle.std.proofs.Common.{ap, length, ◌∙◌}
-use Rattle.query.specs.EachOnce.{lent}
+use Rattle.query.specs.EachOnce.{borrowed}
 use Rattle.query.proofs.Using.{borders_dividing}
 use Rattle.query.proofs.questions.borders_by.borders_by.Goals as goal
 
@@ -8,9 +8,9 @@ returns-clause-lines c =
     let (segs, has, over) = c.in_ok-lines_over.ensures in (
       segs,
       over,
-      λ m of. borders_dividing m c.args.topology.now of _ c.in_ok-layers.layers.now c.in_ok-layers.ensures.layers (lent c.in_ok-geometries.geometries.items)
-          c.in_ok-geometries.ensures c.args.property.now (lent c.deref.result.now) (ap lent c.deref.ensures.value) c.in_ok-classes.classes.items c.in_ok-classes.ensures
-          (lent c.deref-2.result.now) (ap lent c.deref-2.ensures.value) c.deref-3.result.now c.deref-3.ensures.value c.in_ok-uses.uses.items c.in_ok-uses.ensures
+      λ m of. borders_dividing m c.args.topology.now of _ c.in_ok-layers.layers.now c.in_ok-layers.ensures.layers (borrowed c.in_ok-geometries.geometries.items)
+          c.in_ok-geometries.ensures c.args.property.now (borrowed c.deref.result.now) (ap borrowed c.deref.ensures.value) c.in_ok-classes.classes.items c.in_ok-classes.ensures
+          (borrowed c.deref-2.result.now) (ap borrowed c.deref-2.ensures.value) c.deref-3.result.now c.deref-3.ensures.value c.in_ok-uses.uses.items c.in_ok-uses.ensures
           c.deref-4.result.now c.deref-4.ensures.value c.len.result (c.len.ensures.len ∙ ap (λ w. length w.arcs) c.arcs-arcs.ensures.arcs) c.in_ok-spans.spans.items
           c.in_ok-spans.ensures c.deref-5.result.now c.deref-5.ensures.value c.in_ok-asked.asked.items c.in_ok-asked.ensures c.deref-6.result.now c.deref-6.ensures.value
           segs has,

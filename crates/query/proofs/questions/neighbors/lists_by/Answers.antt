@@ -2,7 +2,7 @@ use Rattle.std.proofs.Common.{[], ap, length, replicate, subst, sym, ◌∙◌}
 use Rattle.std.proofs.lemmas.List.{length-map}
 use Rattle.theory.specs.Arcs.{AreSortedOnce}
 use Rattle.query.specs.ArcUsers.{AreUsersOf, with_indexes}
-use Rattle.query.specs.EachOnce.{lent}
+use Rattle.query.specs.EachOnce.{borrowed}
 use Rattle.query.specs.Uses.{use_cmp}
 use Rattle.query.specs.contracts.uses.UsePartialEq.TheImpl as use_eq
 use Rattle.query.proofs.IndexLists.{lists_told}
@@ -16,7 +16,7 @@ returns c =
     let uses = c.dedup.new.self.items in
     let users = c.in_ok-users.users.items in
     let once = sorted_once use_cmp use_total use_same use_eq.eq-value.it use_ties _ _ _ c.sort_unstable.ensures.permutation c.sort_unstable.ensures.sorted c.dedup.ensures.filtered in
-    lists_told (lent c.args.geometries.now) classes uses users (subst (λ w. AreSortedOnce use_cmp w uses) c.in_ok-uses.ensures once)
+    lists_told (borrowed c.args.geometries.now) classes uses users (subst (λ w. AreSortedOnce use_cmp w uses) c.in_ok-uses.ensures once)
     (subst (λ w. AreUsersOf classes w users) c.deref.ensures.value c.in_ok-users.ensures.users) _
     (c.in_ok-lists_of.ensures
     ∙ ap (λ w. with_indexes classes w (replicate (length c.args.geometries.now) []) c.deref-2.result.now) c.deref-3.ensures.value

@@ -1,6 +1,6 @@
 use Rattle.std.proofs.Common.{[], ap, map, subst, ◌++◌, ◌≡◌, ◌∙◌}
 use Rattle.query.specs.ArcUsers.{AreListsBy}
-use Rattle.query.specs.EachOnce.{lent}
+use Rattle.query.specs.EachOnce.{borrowed}
 use Rattle.query.proofs.Neighboring.{lists_neighbors}
 use Rattle.query.proofs.LayerFeatures.{layer_found, layer_missing, layer_stands, not_named, named_features}
 use Rattle.query.proofs.questions.neighbors.neighbors.Goals as goal
@@ -20,6 +20,6 @@ returns-clause-layer c = λ m of. layer_found _ _ (named_features m c.args.topol
 pub returns-clause-neighbors : goal.returns-clause-neighbors
 returns-clause-neighbors c = λ m of.
     let gs = c.in-Some.geometries.now in
-    let all : lent c.add_geometries.new.found.items ≡ gs = c.in_ok-add_geometries.ensures ∙ ap (λ w. lent w ++ gs) c.new-found.ensures.items in
+    let all : borrowed c.add_geometries.new.found.items ≡ gs = c.in_ok-add_geometries.ensures ∙ ap (λ w. borrowed w ++ gs) c.new-found.ensures.items in
     lists_neighbors m c.args.topology.now of c.args.layer.now gs c.in-Some.ensures.found (map (λ l. l.items) c.in_ok-lists_by.field-0.items)
-    (subst (λ w. AreListsBy w [] (map (λ l. l.items) c.in_ok-lists_by.field-0.items)) (ap lent c.deref.ensures.value ∙ all) c.in_ok-lists_by.ensures)
+    (subst (λ w. AreListsBy w [] (map (λ l. l.items) c.in_ok-lists_by.field-0.items)) (ap borrowed c.deref.ensures.value ∙ all) c.in_ok-lists_by.ensures)

@@ -1,7 +1,7 @@
 use Rattle.std.proofs.Common.{ap, map, subst, ◌++◌, ◌≡◌, ◌∙◌}
 use Rattle.query.specs.ArcUsers.{AreListsBy}
 use Rattle.query.specs.ByProperty.{AreClasses, values_of}
-use Rattle.query.specs.EachOnce.{lent}
+use Rattle.query.specs.EachOnce.{borrowed}
 use Rattle.query.proofs.NeighboringBy.{lists_neighbors_by}
 use Rattle.query.proofs.LayerFeatures.{layer_found, layer_missing, layer_stands, not_named, named_features}
 use Rattle.query.proofs.questions.neighbors_by.neighbors_by.Goals as goal
@@ -24,9 +24,9 @@ returns-clause-layer c = λ m of. layer_found _ _ (named_features m c.args.topol
 pub returns-clause-neighbors : goal.returns-clause-neighbors
 returns-clause-neighbors c = λ m of.
     let gs = c.in-Some.geometries.now in
-    let all : lent c.add_geometries.new.found.items ≡ gs = c.in_ok-add_geometries.ensures ∙ ap (λ w. lent w ++ gs) c.new-found.ensures.items in
+    let all : borrowed c.add_geometries.new.found.items ≡ gs = c.in_ok-add_geometries.ensures ∙ ap (λ w. borrowed w ++ gs) c.new-found.ensures.items in
     lists_neighbors_by m c.args.topology.now of c.args.layer.now gs c.in-Some.ensures.found c.args.property.now c.in_ok-classes.classes.items
-    (subst (λ w. AreClasses (values_of c.args.property.now w) c.in_ok-classes.classes.items) (ap lent c.deref.ensures.value ∙ all) c.in_ok-classes.ensures)
+    (subst (λ w. AreClasses (values_of c.args.property.now w) c.in_ok-classes.classes.items) (ap borrowed c.deref.ensures.value ∙ all) c.in_ok-classes.ensures)
     (map (λ l. l.items) c.in_ok-lists_by.field-0.items)
-    (subst (λ w. AreListsBy w c.in_ok-classes.classes.items (map (λ l. l.items) c.in_ok-lists_by.field-0.items)) (ap lent c.deref-2.ensures.value ∙ all)
-    (subst (λ w. AreListsBy (lent c.deref-2.result.now) w (map (λ l. l.items) c.in_ok-lists_by.field-0.items)) c.deref-3.ensures.value c.in_ok-lists_by.ensures))
+    (subst (λ w. AreListsBy w c.in_ok-classes.classes.items (map (λ l. l.items) c.in_ok-lists_by.field-0.items)) (ap borrowed c.deref-2.ensures.value ∙ all)
+    (subst (λ w. AreListsBy (borrowed c.deref-2.result.now) w (map (λ l. l.items) c.in_ok-lists_by.field-0.items)) c.deref-3.ensures.value c.in_ok-lists_by.ensures))

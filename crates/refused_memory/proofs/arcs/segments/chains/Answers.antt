@@ -3,4 +3,4 @@ use Rattle.chains.specs.Joined.{MeetsTwo}
 use Rattle.refused_memory.proofs.arcs.segments.chains.Goals as goal
 
 pub maximal-requires : goal.maximal-requires
-maximal-requires c = subst (λ w. MeetsTwo w c.args.lent.now.stops.keys) (sym c.new-none.ensures.empty) (λ v w n s. absurd s)
+maximal-requires c = subst (λ w. MeetsTwo w c.args.borrowed.now.stops.keys) (sym c.new-none.ensures.empty) (λ v w n s. absurd s)

@@ -1,7 +1,7 @@
 use Rattle.std.proofs.Common.{IfSome, subst, sym}
 use Rattle.normalize.specs.Repeats.{AreWithoutRepeats}
 use Rattle.validate.specs.Accept.Laws.{HaveI64}
-use Rattle.topo_io.proofs.AsItStands.{said_ids}
+use Rattle.topo_io.proofs.ValidTextsMeanAMap.{said_ids}
 use Rattle.topo_io.proofs.Repeats.{without_ids}
 use Rattle.texts_tests.proofs.topo_io_tests.other_forms.is_taken_normalized.Goals as goal
 

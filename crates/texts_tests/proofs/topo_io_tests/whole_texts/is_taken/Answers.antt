@@ -1,4 +1,4 @@
-use Rattle.topo_io.proofs.AsItStands.{said_ids}
+use Rattle.topo_io.proofs.ValidTextsMeanAMap.{said_ids}
 use Rattle.texts_tests.proofs.topo_io_tests.whole_texts.is_taken.Goals as goal
 
 pub take-requires : goal.take-requires

@@ -1,6 +1,6 @@
 use Rattle.std.proofs.Common.{◌≡◌, ◌∙◌, IfSome, subst}
 use Rattle.validate.specs.Noding.{table_read}
-use Rattle.validate.proofs.AcceptLemmas.StandingParts.{table_made}
+use Rattle.validate.proofs.AcceptLemmas.ValidParts.{table_made}
 use Rattle.validate.proofs.accept.topology.table_of.Goals as goal
 
 pub returns : goal.returns

@@ -17,7 +17,7 @@ use Rattle.topo.specs.Parts.{LayerParts, TopologyParts}
 use Rattle.topo.specs.declared.geom.Geom.{Geom}
 use Rattle.validate.specs.Accept.Laws.{HaveI64, IsStitched}
 use Rattle.validate.specs.Accept.Accepted.{IfWhole, IsWhole}
-use Rattle.validate.specs.Accept.Topology.{StandInOrder, table_of}
+use Rattle.validate.specs.Accept.Topology.{AreValidInOrder, table_of}
 use Rattle.validate.specs.declared.accept.topology.Accepted.{Accepted}
 use Rattle.validate.specs.declared.accept.topology.Accepted.TheVariants.{Whole}
 use Rattle.validate.proofs.AcceptLemmas.PairsGathered.{pairs_with}
@@ -61,7 +61,7 @@ module _ (arcs : List (List Pos)) where
   same_layers (e ∷ es) [] h = absurd h
   same_layers (e ∷ es) (l ∷ ls) h = λ i. (sym h.0.name i, map_list plain (set.items e.1)) ∷ same_layers es ls h.1 i
 
-pub valid_texts_mean_a_map : law.AsItStands
+pub valid_texts_mean_a_map : law.ValidTextsMeanAMap
 valid_texts_mean_a_map bytes g t ls s stand order =
     let (m, stitched) = layers_make_a_map t ls stand (said_ids bytes g t.arcs ls s) order in
     let es = map.entries m in (
@@ -72,16 +72,16 @@ valid_texts_mean_a_map bytes g t ls s stand order =
 
 -- a topology of a text's parts, which stand in order, is what the text means
 pub taken_means : (bytes : List ℕ) (g : Transform) (arcs : List (List Pos)) (ls : List LayerParts) (t : TopologyParts) → AreSaid bytes g arcs ls →
-    t.grid ≡ g → t.arcs ≡ table_of arcs ls → t.layers ≡ ls → StandInOrder (table_of arcs ls) ls → ((m : Layers) → ArePartsOf m t.arcs t.layers → IsOf m t) → MeansTopology bytes t
+    t.grid ≡ g → t.arcs ≡ table_of arcs ls → t.layers ≡ ls → AreValidInOrder (table_of arcs ls) ls → ((m : Layers) → ArePartsOf m t.arcs t.layers → IsOf m t) → MeansTopology bytes t
 taken_means bytes g arcs ls t s same_grid same_table same_layers stand of_map =
     let said : AreSaid bytes t.grid t.arcs.arcs t.layers = subst (λ w. w) (λ i. AreSaid bytes (sym same_grid i) (sym same_table i).arcs (sym same_layers i)) s in
-    let stands : StandInOrder t.arcs t.layers = subst (λ w. w) (λ i. StandInOrder (sym same_table i) (sym same_layers i)) stand in
+    let stands : AreValidInOrder t.arcs t.layers = subst (λ w. w) (λ i. AreValidInOrder (sym same_table i) (sym same_layers i)) stand in
     let (m, means, parts) = valid_texts_mean_a_map bytes t.grid t.arcs t.layers said stands.stand stands.order in
     (m, means, of_map m parts)
 
 -- the same of what is answered, where that is a topology
 pub whole_means : (bytes : List ℕ) (g : Transform) (arcs : List (List Pos)) (ls : List LayerParts) → AreSaid bytes g arcs ls → (o : Accepted) (t : TopologyParts) → o ≡ Whole t →
-    IfWhole o (λ t. t.grid ≡ g) → IfWhole o (λ t. t.arcs ≡ table_of arcs ls) → IfWhole o (λ t. t.layers ≡ ls) → IsWhole o ↔ StandInOrder (table_of arcs ls) ls →
+    IfWhole o (λ t. t.grid ≡ g) → IfWhole o (λ t. t.arcs ≡ table_of arcs ls) → IfWhole o (λ t. t.layers ≡ ls) → IsWhole o ↔ AreValidInOrder (table_of arcs ls) ls →
     IfWhole o (λ t. (m : Layers) → ArePartsOf m t.arcs t.layers → IsOf m t) → MeansTopology bytes t
 whole_means bytes g arcs ls s o t e grid table layers stand of_map =
     taken_means bytes g arcs ls t s (subst (λ w. IfWhole w (λ t. t.grid ≡ g)) e grid) (subst (λ w. IfWhole w (λ t. t.arcs ≡ table_of arcs ls)) e table)

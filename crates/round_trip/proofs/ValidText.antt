@@ -26,38 +26,38 @@ pub record ListStands (faults : List Pos → List Pair) (of : List Pos → List 
   pub none : faults list ≡ []
   pub same : of list ≡ l
 
-abbrev pub LineStands : List (List Pos) → List Pos → List ArcRef → Type 0
-LineStands arcs = ListStands line_faults line_of arcs
+abbrev pub IsValidLine : List (List Pos) → List Pos → List ArcRef → Type 0
+IsValidLine arcs = ListStands line_faults line_of arcs
 
-abbrev pub RingStands : List (List Pos) → List Pos → List ArcRef → Type 0
-RingStands arcs = ListStands ring_faults ring_of arcs
+abbrev pub IsValidRing : List (List Pos) → List Pos → List ArcRef → Type 0
+IsValidRing arcs = ListStands ring_faults ring_of arcs
 
 -- a geometry that can be written and means the feature
-pub record Stands (g : Transform) (arcs : List (List Pos)) (p : Plain) (h : Item Info (Body Pos)) : Type 0 where
+pub record IsValidGeometry (g : Transform) (arcs : List (List Pos)) (p : Plain) (h : Item Info (Body Pos)) : Type 0 where
   pub stored : HasI64 h.info.0
   pub id : plain_id h.info.0 ≡ p.id
   pub properties : properties_text h.info.1 ≡ p.properties
-  pub form : IsFormOf (LineStands arcs) (RingStands arcs) p.form h.form
+  pub form : IsFormOf (IsValidLine arcs) (IsValidRing arcs) p.form h.form
   pub points : (q : Pos) → Has q (points_in h.form) → Fits g q
 
-pub record LayerStands (g : Transform) (arcs : List (List Pos)) (l : List ℕ × List Plain) (k : Layer (Item Info (Body Pos))) : Type 0 where
+pub record IsValidLayer (g : Transform) (arcs : List (List Pos)) (l : List ℕ × List Plain) (k : Layer (Item Info (Body Pos))) : Type 0 where
   pub name : k.name ≡ l.0
   pub utf8 : IsUtf8 k.name
-  pub items : Pairwise (Stands g arcs) l.1 k.items
+  pub items : Pairwise (IsValidGeometry g arcs) l.1 k.items
 
-pub record BoxStands (c : Corners) : Type 0 where
+pub record IsValidBox (c : Corners) : Type 0 where
   pub west : IsI64 c.0
   pub south : IsI64 c.1
   pub east : IsI64 c.2
   pub north : IsI64 c.3
 
-pub record TopologyStands (t : Seen) (ls : List (List ℕ × List Plain)) : Type 0 where
+pub record IsValidTopology (t : Seen) (ls : List (List ℕ × List Plain)) : Type 0 where
   pub limits : IsTransform t.grid
   pub few : length t.arcs ≤ 2 ^ 63
   pub long : (c : List Pos) → Has c t.arcs → 2 ≤ length c
   pub fit : (c : List Pos) → Has c t.arcs → (p : Pos) → Has p c → Fits t.grid p
-  pub box : (c : Corners) → t.bbox ≡ Some c → BoxStands c
-  pub layers : Pairwise (LayerStands t.grid t.arcs) ls t.layers
+  pub box : (c : Corners) → t.bbox ≡ Some c → IsValidBox c
+  pub layers : Pairwise (IsValidLayer t.grid t.arcs) ls t.layers
   pub ascends : Ascends (slice_cmp nat_cmp) (map (λ l. l.name) t.layers)
 
 -- ---- lists side by side

@@ -4,9 +4,9 @@ use Rattle.topo.specs.Parts.{LayerParts}
 use Rattle.refine.specs.declared.remove.LayerLeft.{LayerLeft}
 
 -- what is borrowed of a layer, as its parts
-abbrev pub lent : LayerLeft → LayerParts
-lent l = record { name = l.name.now; geometries = map_list (λ g. g.now) l.geometries.items }
+abbrev pub borrowed : LayerLeft → LayerParts
+borrowed l = record { name = l.name.now; geometries = map_list (λ g. g.now) l.geometries.items }
 
 -- what a removal borrows of each layer, as its parts
-abbrev pub all_lent : List LayerLeft → List LayerParts
-all_lent ls = map_list lent ls
+abbrev pub all_borrowed : List LayerLeft → List LayerParts
+all_borrowed ls = map_list borrowed ls

@@ -30,8 +30,8 @@ use Rattle.theory.proofs.HealingKept.{list_ends}
 use Rattle.theory.proofs.HealingLists.{starts_once}
 use Rattle.theory.proofs.ValidMaps.{ends_list}
 use Rattle.theory.proofs.UsersOfArcs.{line_partner_back, partner_back}
-use Rattle.split_heal.specs.HealedParts.{RejoinedParts}
-use Rattle.split_heal.specs.Healing.{IsLeftBy, IsRejoinedOf}
+use Rattle.split_heal.specs.HealedParts.{HealedParts}
+use Rattle.split_heal.specs.Healing.{IsLeftBy, IsHealedOf}
 use Rattle.split_heal.specs.Starts.{starts_by}
 use Rattle.split_heal.proofs.Begun.{starts_are}
 use Rattle.topo.specs.BodyLists.{body_lines, body_lists}
@@ -44,19 +44,19 @@ use Rattle.topo.specs.declared.geom.Geom.{Geom}
 use Rattle.topo.proofs.Sound.{are_sound}
 use Rattle.topo.proofs.Walks.{walked_stitched}
 use Rattle.topo.specs.LayerLaws.Leaving.{layer_less}
-use Rattle.refine.specs.Lent.{all_lent}
+use Rattle.refine.specs.Borrowed.{all_borrowed}
 use Rattle.topo.specs.LayerLaws.LeftLists.{both_ends, line_ends}
 use Rattle.topo.specs.UsedArcs.{body_refs, layer_refs, layers_refs}
 use Rattle.refine.specs.LeftLists.{body_ends, layer_ends, layers_ends}
 use Rattle.refine.specs.declared.remove.LayerLeft.{LayerLeft}
-use Rattle.topo.specs.LayerLaws.Less.{layer_rejoined, layers_left, less, marks_of}
+use Rattle.topo.specs.LayerLaws.Less.{layer_over_healed, layers_left, less, marks_of}
 use Rattle.refine.specs.Removals.{AreJoinedOf}
 use Rattle.topo.proofs.LayerLawsLemmas.LeftGeometries as left
 use Rattle.arcs.specs.ArcMarks.{marks_set}
 use Rattle.arcs.proofs.SetMarks.{marks_tell}
 use Rattle.topo.proofs.LayerLawsLemmas.Passing.{pass_marks}
 use Rattle.topo.proofs.LayerLawsLemmas.RecutGeometries.{order}
-use Rattle.topo.proofs.LayerLawsLemmas.RejoinedLayers.{parts_left}
+use Rattle.topo.proofs.LayerLawsLemmas.HealedLayers.{parts_left}
 
 -- ---- used arcs
 
@@ -202,28 +202,28 @@ module _ (arcs : List (List Pos)) where
 
 -- ---- what `remove` has before it puts the new topology together
 
-pub record IsMade (t : TopologyParts) (r : Layers) (ls : List LayerParts) (kept : List Bool) (ends : List Pos) (j : RejoinedParts) : Type 0 where
+pub record IsMade (t : TopologyParts) (r : Layers) (ls : List LayerParts) (kept : List Bool) (ends : List Pos) (j : HealedParts) : Type 0 where
   pub left_are : ls ≡ map_list (layer_less t.arcs.arcs r) t.layers
   pub kept_are : kept ≡ marks_set true (replicate (length t.arcs.arcs) false) (layers_refs ls)
   pub ends_are : ends ≡ layers_ends t.arcs.arcs ls
-  pub refined : (g u : Geometry Pos) → IsLeftBy g u t.arcs kept ends → IsRejoinedOf g u t.arcs j
+  pub refined : (g u : Geometry Pos) → IsLeftBy g u t.arcs kept ends → IsHealedOf g u t.arcs j
 
 -- from what is lent and from marks and ends as they are handed over
-pub made_of : {t : TopologyParts} {r : Layers} {stay here there : List LayerLeft} {kept marks : List Bool} {ends places : List Pos} {a b : Arcs} {j : RejoinedParts} →
-    all_lent stay ≡ map_list (layer_less t.arcs.arcs r) t.layers → a ≡ t.arcs → here ≡ stay → kept ≡ marks_set true (replicate (length a.arcs) false) (layers_refs (all_lent here)) →
-    there ≡ stay → ends ≡ layers_ends t.arcs.arcs (all_lent there) → b ≡ t.arcs → marks ≡ kept → places ≡ ends →
-    ((g u : Geometry Pos) → IsLeftBy g u b marks places → IsRejoinedOf g u b j) → IsMade t r (all_lent stay) kept ends j
+pub made_of : {t : TopologyParts} {r : Layers} {stay here there : List LayerLeft} {kept marks : List Bool} {ends places : List Pos} {a b : Arcs} {j : HealedParts} →
+    all_borrowed stay ≡ map_list (layer_less t.arcs.arcs r) t.layers → a ≡ t.arcs → here ≡ stay → kept ≡ marks_set true (replicate (length a.arcs) false) (layers_refs (all_borrowed here)) →
+    there ≡ stay → ends ≡ layers_ends t.arcs.arcs (all_borrowed there) → b ≡ t.arcs → marks ≡ kept → places ≡ ends →
+    ((g u : Geometry Pos) → IsLeftBy g u b marks places → IsHealedOf g u b j) → IsMade t r (all_borrowed stay) kept ends j
 made_of {t = t} {kept = kept} {marks = marks} {ends = ends} {b = b} {j = j} l ae he k te n be me pe refined = record {
   left_are = l;
-  kept_are = k ∙ (λ i. marks_set true (replicate (length (ae i).arcs) false) (layers_refs (all_lent (he i))));
-  ends_are = n ∙ ap (λ w. layers_ends t.arcs.arcs (all_lent w)) te;
+  kept_are = k ∙ (λ i. marks_set true (replicate (length (ae i).arcs) false) (layers_refs (all_borrowed (he i))));
+  ends_are = n ∙ ap (λ w. layers_ends t.arcs.arcs (all_borrowed w)) te;
   refined = λ g u.
-      subst (λ w. IsLeftBy g u w kept ends → IsRejoinedOf g u w j) be
-      (subst (λ w. IsLeftBy g u b w ends → IsRejoinedOf g u b j) me
-      (subst (λ w. IsLeftBy g u b marks w → IsRejoinedOf g u b j) pe (refined g u)));
+      subst (λ w. IsLeftBy g u w kept ends → IsHealedOf g u w j) be
+      (subst (λ w. IsLeftBy g u b w ends → IsHealedOf g u b j) me
+      (subst (λ w. IsLeftBy g u b marks w → IsHealedOf g u b j) pe (refined g u)));
 }
 
-module _ {t : TopologyParts} {r : Layers} {ls : List LayerParts} {kept : List Bool} {ends : List Pos} {j : RejoinedParts} (made : IsMade t r ls kept ends j)
+module _ {t : TopologyParts} {r : Layers} {ls : List LayerParts} {kept : List Bool} {ends : List Pos} {j : HealedParts} (made : IsMade t r ls kept ends j)
     (m : Layers) (h : IsOf m t) where
   abbrev g : Geometry Pos
   g = geometry_of (less m r)
@@ -268,17 +268,17 @@ module _ {t : TopologyParts} {r : Layers} {ls : List LayerParts} {kept : List Bo
   part : IsPartOf g u
   part = left.less_is_part m r t.arcs.arcs t.layers h.topology.layers
 
-  joined_is : IsRejoinedOf g u t.arcs j
+  joined_is : IsHealedOf g u t.arcs j
   joined_is = made.refined g u (record { sound = are_sound m; table = h.table; part = part; kept = kept_told; ends = ends_told })
 
   starts : AreStarts j.pieces (starts_by j.pieces)
   starts = starts_are j.pieces (starts_once position_cmp position_total position_same position_dec u (are_sound m) t.arcs.arcs joined_is.refined.new g part j.arcs.arcs j.pieces joined_is.refined)
 
   -- the new arcs and layers are the parts of what is left
-  pub parts_made : (arcs : Arcs) (layers : List LayerParts) → arcs ≡ j.arcs → layers ≡ map_list (layer_rejoined j.arcs.arcs (starts_by j.pieces)) ls → ArePartsOf (less m r) arcs layers
+  pub parts_made : (arcs : Arcs) (layers : List LayerParts) → arcs ≡ j.arcs → layers ≡ map_list (layer_over_healed j.arcs.arcs (starts_by j.pieces)) ls → ArePartsOf (less m r) arcs layers
   parts_made arcs layers e f =
       subst (λ a. ArePartsOf (less m r) a layers) (sym e)
-      (subst (ArePartsOf (less m r) j.arcs) (sym (f ∙ ap (map_list (layer_rejoined j.arcs.arcs (starts_by j.pieces))) same))
+      (subst (ArePartsOf (less m r) j.arcs) (sym (f ∙ ap (map_list (layer_over_healed j.arcs.arcs (starts_by j.pieces))) same))
       (parts_left m r t.arcs j.arcs t.layers j.pieces (starts_by j.pieces) (record { table = h.table; layers = h.topology.layers }) joined_is.table joined_is.refined starts))
 
   -- the pieces are the old arcs of the new ones
