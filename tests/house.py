@@ -45,7 +45,7 @@ VALIDATORS = ["validate"]
 SPEED = ["reading/*/[tT]oken*", "geojson_io/*/[tT]oken*", "topo_io/*/[tT]oken*", "topo_io/*/same*", "validate/*", "normalize/*",
          "theory/*/Valid*", "topo/*/geometry_order*", "topo/*/GeometryOrder*", "topo/*/layer_laws*",
          "topo/*/LayerLaws*"]
-USERS = ["numerals/*", "fixing/*", "attributes/*", "decimal_*", "decimals/*", "snapping/*", "rounded_maps/*", "rounding_*", "togrid/*",
+USERS = ["numerals/*", "fixing/*", "attributes/*", "decimal_*", "decimals/*", "snapping/*", "rounded_maps/*", "rounding/*", "togrid/*",
          "command_line/src/togrid*", "compare/*", "c_calls/*", "noshinka/*", "report_texts/*", "reading/*/fault_lists*", "reading/*/FaultLists*",
          "*/[vV]alidity/*", "*/validity.rt", "*/Validity.antt", "text_parts/*", "fault_reports/*", "difference_text/*", "outputs/*/[iI]nfo*",
          "tool/src/diff*", "tool/src/check*", "tool/src/faults*", "query/*_by*", "query/*By*", "query/*/[kK]eyed*",

@@ -10,8 +10,8 @@ use faults::{Fault, FaultKind, OutOfMemory};
 use itoa::Buffer;
 use json::{Error, Scratch, Value};
 use rounded_maps::{RoundingRules, text_faults, texts_of};
-use rounding_options::naming::is_sequence;
-use rounding_options::options::GridOptions;
+use rounding::naming::is_sequence;
+use rounding::options::GridOptions;
 use sinks::Sink;
 use std::alloc::{AllocError, Global};
 

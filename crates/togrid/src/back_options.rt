@@ -6,7 +6,7 @@ use decimals::topology::{BackRules, NumbersBack};
 use fixing::Rewind;
 use grid::limits::GREATEST_GRID_NUMBER;
 use numerals::DecimalStep;
-use rounding_options::options::{decimal_word, rewind_of, scale_of, unit_of};
+use rounding::options::{decimal_word, rewind_of, scale_of, unit_of};
 use std::alloc::Global;
 
 /// What the words ask for on the way back.

@@ -12,12 +12,12 @@ use command_line::refusal::{Refusal, Remedy};
 use command_line::status::Status;
 use command_line::togrid::parse;
 use rounded_maps::{MapsFault, Rounded, Source};
-use rounding_options::checks::{check_layers, check_outputs};
-use rounding_options::layers::{MapLayer, files_without_maps, layers_of};
-use rounding_options::naming::{NamedFile, files_of, is_sequence, names_of, sources_of};
-use rounding_options::options::{GridOptions, options_of};
-use rounding_report::report::{Report, report_lines};
-use rounding_report::report_file::report_text;
+use rounding::checks::{check_layers, check_outputs};
+use rounding::layers::{MapLayer, files_without_maps, layers_of};
+use rounding::naming::{NamedFile, files_of, is_sequence, names_of, sources_of};
+use rounding::options::{GridOptions, options_of};
+use rounding::report::{Report, report_lines};
+use rounding::report_file::report_text;
 use sinks::{Sink, put};
 use std::alloc::{AllocError, Global};
 

@@ -1,9 +1,9 @@
 //! The command to go on with.
 use crate::report::{LineFault, Report};
 use crate::shell::put_shell_word;
+use crate::target::Target;
 use command_line::refusal::put_words;
 use itoa::Buffer;
-use rounding_options::target::Target;
 use sinks::{Kept, put};
 use std::alloc::{AllocError, Global};
 

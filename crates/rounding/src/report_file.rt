@@ -1,12 +1,12 @@
 //! The report as JSON.
 use crate::back_words::back_words;
+use crate::layers::MapLayer;
 use crate::next::next_command;
 use crate::report::{Report, at_most_u64, in_steps, in_units};
 use fixing::{FeatureFixes, Fixes};
 use grid::Pos;
 use json::Writer;
 use rounded_maps::{EqualFeatures, Outcome};
-use rounding_options::layers::MapLayer;
 use snapping::nearly_shared::{Clusters, VertexCounts};
 use std::alloc::{AllocError, Global};
 use std::collections::BTreeMap;

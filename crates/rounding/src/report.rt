@@ -1,7 +1,9 @@
 //! The report on standard error.
 use crate::back_words::put_back;
 use crate::columns::PrintedColumns;
+use crate::layers::MapLayer;
 use crate::next::next_command;
+use crate::options::GridOptions;
 use command_line::refusal::put_words;
 use faults::OutOfMemory;
 use fixing::Fixes;
@@ -9,8 +11,6 @@ use grid::Pos;
 use itoa::Buffer;
 use numerals::Decimal;
 use rounded_maps::{EqualFeatures, Outcome, Rounded};
-use rounding_options::layers::MapLayer;
-use rounding_options::options::GridOptions;
 use sinks::{Kept, Sink, WriteFault, put};
 use snapping::nearly_shared::{Clusters, VertexCounts};
 use std::alloc::{AllocError, AllocFailed, Global};

@@ -1,9 +1,9 @@
 //! The words of the way back: a topology in the unit of the map, with its numbers.
+use crate::options::{GridOptions, power_of};
 use crate::report::{LineFault, Report};
 use crate::shell::put_shell_word;
+use crate::target::Target;
 use attributes::Scale;
-use rounding_options::options::{GridOptions, power_of};
-use rounding_options::target::Target;
 use sinks::{Kept, put};
 use std::alloc::{AllocError, Global};
 use std::collections::BTreeSet;

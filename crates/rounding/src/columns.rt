@@ -1,8 +1,8 @@
 //! The columns of numbers of what is printed.
+use crate::layers::MapLayer;
 use attributes::Columns;
 use faults::OutOfMemory;
 use rounded_maps::{Outcome, Rounded, RoundedFeature, RoundedMap};
-use rounding_options::layers::MapLayer;
 use std::alloc::Global;
 use std::collections::{BTreeMap, BTreeSet};
 use topo::Topology;
