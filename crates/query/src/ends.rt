@@ -26,11 +26,7 @@ fn add_ends(ends: &mut Vec<Step>, arc: &[Pos]) -> Result<(), AllocError>
     add_end(ends, Step::first_against(arc))
 }
 
-fn add_numbered_arc(
-    ends: &mut Vec<Step>,
-    arcs: &ArcTable,
-    number: usize,
-) -> Result<(), AllocError>
+fn add_numbered_arc(ends: &mut Vec<Step>, arcs: &ArcTable, number: usize) -> Result<(), AllocError>
     ensures { OnOk result ((v w : Pos) → AmongEnds v w ends.new.items ↔ (AmongEnds v w ends.old.items ⊎ EndStep v w (arc_at arcs.now.arcs number))) }
 {
     match arcs.arc(number) {

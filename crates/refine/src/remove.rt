@@ -329,7 +329,11 @@ impl NewLists for JoinedLists<'_> {
 }
 
 /// A layer that stays by the new arcs.
-fn layer_over_healed(alloc: Global, arcs: &HealedArcs, layer: &LayerLeft) -> Result<Layer, OutOfMemory>
+fn layer_over_healed(
+    alloc: Global,
+    arcs: &HealedArcs,
+    layer: &LayerLeft,
+) -> Result<Layer, OutOfMemory>
     ensures { IfOk result (λ l. l ≡ healed_list.layer_over_healed arcs.now.arcs.arcs (starts_by arcs.now.pieces) (borrowed layer.now)) }
 {
     let name = layer.name.copy(alloc)?;

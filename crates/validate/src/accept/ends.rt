@@ -15,11 +15,7 @@ use grid::pos::Pos;
 use std::alloc::Global;
 use topo::{Body, Geom, Layer};
 
-fn add_body<A: NumberedArcs>(
-    ends: &mut Vec<Pos>,
-    arcs: &A,
-    body: &Body,
-) -> Result<(), OutOfMemory>
+fn add_body<A: NumberedArcs>(ends: &mut Vec<Pos>, arcs: &A, body: &Body) -> Result<(), OutOfMemory>
     ensures { OnOk result (ends.new.items ≡ ends.old.items ++ gathered (spec.line_ends (A.arcs arcs.now)) (body_lines body.now)) }
 {
     for refs in body.lines() {
