@@ -71,6 +71,9 @@ EXCEPTIONS = {
     "tool::run": "is the command: tests/refused_memory.py",
 }
 MODULES = {
+    "arcs::arc_marks": "has parts of refine::remove and split_heal::heal",
+    "arcs::ends": "has parts of split_heal::heal",
+    "topo::used_arcs": "has parts of refine::remove",
     "sinks::path_text": "is of the command: tests/refused_memory.py",
     "outputs::info_text": "is of the command: tests/refused_memory.py",
     "difference_text": "is of the command: tests/refused_memory.py",

@@ -13,4 +13,6 @@ pub mod Extents
 pub mod TurnedLists
 pub mod LeastUsed
 pub mod Backwards
+pub mod SetMarks
+pub mod EndsAlong
 pub mod Steps

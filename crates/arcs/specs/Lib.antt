@@ -7,5 +7,8 @@ pub mod Table
 pub mod Stored
 pub mod Placing
 pub mod Turning
+pub mod ArcMarks
+pub mod Ends
+pub mod Steps
 pub mod Pieces
 pub mod Steps

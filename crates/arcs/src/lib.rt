@@ -2,7 +2,9 @@
 //! numbers.
 #![tactic(auto)]
 
+pub mod arc_marks;
 mod arcs_box;
+pub mod ends;
 mod key;
 pub mod marking;
 mod merging;
@@ -17,6 +19,7 @@ pub mod table_arcs;
 pub mod turning;
 pub mod used_arcs;
 
+pub use arc_marks::ArcMarks;
 pub use arcs_box::Extent;
 pub use piece::Piece;
 pub use step::Step;

@@ -18,8 +18,8 @@ pub mod visits;
 
 pub use arc_cutting::cut_arc;
 pub use arcs::{
-    ArcRef, ArcTable, Extent, Piece, marking, ordered, table, table_arcs, turn_ring, turning,
-    used_arcs,
+    ArcMarks, ArcRef, ArcTable, Extent, Piece, Step, arc_marks, marking, ordered, step, table,
+    table_arcs, turn_ring, turning, used_arcs,
 };
 pub use cutting::{add_pieces, cut_line, cut_ring};
 pub use joining::{maximal, maximal_with};

@@ -1,5 +1,3 @@
-mod Marks
-mod SeenLists
 mod Behind
 mod Replaced
 pub mod Numbered

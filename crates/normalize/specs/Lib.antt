@@ -1,5 +1,3 @@
-pub mod Used
-pub mod Seen
 pub mod Pieces
 pub mod Lists
 pub mod Repeats

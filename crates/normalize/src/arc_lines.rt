@@ -1,4 +1,5 @@
 //! The used arcs of a text as the lines of a map.
+use crate::used::arcs_used;
 use faults::OutOfMemory;
 use grid::pos::Pos;
 use itertools::Itertools;
@@ -11,6 +12,7 @@ use shapes::layer::feature_set;
 use shapes::props::Props;
 use shapes::shape::{Id, Shape};
 use std::alloc::Global;
+use topo::Layer;
 use validate::accept::TextArcs;
 
 /// The place of the first of the least positions.
@@ -95,13 +97,14 @@ fn features_of(alloc: Global, arcs: &TextArcs, used: &[bool]) -> Result<Vec<Feat
     Ok(features)
 }
 
-/// The map of one layer that has those arcs that are marked, each as a feature whose id is the arc's number.
+/// The map of one layer that has those arcs that layers use, each as a feature whose id is the arc's number.
 pub(crate) fn map_of_arcs(
     alloc: Global,
     arcs: &TextArcs,
-    used: &[bool],
+    layers: &[Layer],
 ) -> Result<FeatureMap, OutOfMemory> {
-    let features = features_of(alloc, arcs, used)?;
+    let used = arcs_used(alloc, arcs.len(), layers)?;
+    let features = features_of(alloc, arcs, used.as_slice())?;
     let map = FeatureMap::new(alloc);
     map.with_features("arcs", feature_set(alloc, features)?)
 }

@@ -10,7 +10,6 @@ mod heal;
 mod lists;
 mod pieces;
 pub mod repeats;
-mod seen;
 mod split;
 mod stitches;
 mod used;

@@ -117,21 +117,21 @@ fn first_geometries(layers: &[Layer]) -> &[Geom] {
 }
 
 impl Split {
-    /// Those arcs of a text that are marked, split where they meet: at their ends, where three segments
+    /// Those arcs of a text that layers use, split where they meet: at their ends, where three segments
     /// meet, and at the least vertex of each.
     pub(crate) fn of(
         alloc: Global,
         arcs: &TextArcs,
-        used: &[bool],
+        layers: &[Layer],
     ) -> Result<Option<Split>, OutOfMemory>
         ensures { IfOk result (λ o. IfSome o (λ s. AreSplit s.table.arcs arcs.now s.pieces.items)) }
     {
         let Some(grid) = Grid::new(1, 1, 0, 0) else {
             return Ok(None);
         };
-        let map = map_of_arcs(alloc, arcs, used)?;
-        let (table, layers) = Topology::build(alloc, &grid, &map)?.into_parts();
-        let pieces = all_pieces(alloc, &table, arcs, first_geometries(&layers))?;
+        let map = map_of_arcs(alloc, arcs, layers)?;
+        let (table, built) = Topology::build(alloc, &grid, &map)?.into_parts();
+        let pieces = all_pieces(alloc, &table, arcs, first_geometries(&built))?;
         Ok(Some(Split { table, pieces }))
     }
 }

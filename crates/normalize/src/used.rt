@@ -1,32 +1,32 @@
-//! Marks of the arcs that lists use.
-ghost use Rattle.normalize.specs.Used.{lists_marked};
-ghost use Rattle.validate.specs.UsedArcs.{marks_set};
-ghost use Rattle.std.specs.Prelude.{◌≡◌, set, true};
-ghost use Rattle.topo.specs.BodyLists.{body_lists};
+//! The arcs that layers use.
+ghost use Rattle.arcs.specs.ArcMarks.{marks_set};
+ghost use Rattle.std.specs.Prelude.{◌≡◌, IfOk, false, replicate, true};
+ghost use Rattle.theory.specs.Lists.{gathered};
+ghost use Rattle.topo.specs.UsedArcs.{body_refs, layers_refs};
 
-use chains::ArcRef;
-use topo::Body;
+use arcs::ArcMarks;
+use std::alloc::{AllocError, Global};
+use topo::{Geom, Layer, mark_body};
 
-fn mark(marks: &mut Vec<bool>, arc: usize)
-    ensures { marks.new.items ≡ set marks.old.items arc true }
+fn mark_geometries(marks: &mut ArcMarks, geometries: &[Geom])
+    ensures { marks.new ≡ marks_set true marks.old (gathered (λ g. body_refs g.body) geometries.now) }
 {
-    if arc < marks.len() {
-        marks[arc] = true;
+    for geometry in geometries {
+        mark_body(marks, &geometry.body);
     }
 }
 
-fn mark_each(marks: &mut Vec<bool>, refs: &[ArcRef])
-    ensures { marks.new.items ≡ marks_set true marks.old.items refs.now }
+/// A mark for each of so many arcs, set where layers use it.
+pub(crate) fn arcs_used(
+    alloc: Global,
+    count: usize,
+    layers: &[Layer],
+) -> Result<ArcMarks, AllocError>
+    ensures { IfOk result (λ m. m ≡ marks_set true (replicate count false) (layers_refs layers.now)) }
 {
-    for used in refs {
-        mark(marks, used.arc);
+    let mut marks = ArcMarks::none(alloc, count)?;
+    for layer in layers {
+        mark_geometries(&mut marks, layer.geometries());
     }
-}
-
-pub(crate) fn mark_body(marks: &mut Vec<bool>, body: &Body)
-    ensures { marks.new.items ≡ lists_marked marks.old.items (body_lists body.now) }
-{
-    for refs in body.parts() {
-        mark_each(marks, refs.as_slice());
-    }
+    Ok(marks)
 }

@@ -6,13 +6,12 @@ ghost use Rattle.validate.specs.Accept.Laws.{HaveI64};
 use crate::copies::layers_copied;
 use crate::heal::healed_arcs;
 use crate::lists::HealedLists;
-use crate::seen::seen_in;
 use crate::split::Split;
 use chains::ArcTable;
 use faults::OutOfMemory;
 use std::alloc::Global;
 use topo::Layer;
-use validate::accept::TextArcs;
+use validate::accept::{TextArcs, line_ends};
 
 /// Arcs that are noded and healed, in order, each in its lesser direction and a free loop begun at its least
 /// vertex; and layers by these arcs.
@@ -39,11 +38,11 @@ pub fn normalize(
     ensures kept { IfOk result (λ o. IfSome o (λ n. KeepLayers arcs.now n.arcs.arcs layers.now n.layers.items)) }
     ensures ids { IfOk result (λ o. IfSome o (λ n. HaveI64 layers.now → HaveI64 n.layers.items)) }
 {
-    let seen = seen_in(alloc, arcs, layers)?;
-    let Some(split) = Split::of(alloc, arcs, &seen.used)? else {
+    let Some(split) = Split::of(alloc, arcs, layers)? else {
         return Ok(None);
     };
-    let Some(joined) = healed_arcs(alloc, &split.table, &seen.ends)? else {
+    let ends = line_ends(alloc, arcs, layers)?;
+    let Some(joined) = healed_arcs(alloc, &split.table, &ends)? else {
         return Ok(None);
     };
     let lists = HealedLists {

@@ -20,10 +20,11 @@ use Rattle.arcs.specs.Table.{IsTableOf}
 use Rattle.lines.proofs.Positions.{position_apart, position_decide, position_true, tied_position, true_false, true_position}
 use Rattle.lines.proofs.ByVertex.{behind_at, here_at, sorted_stand, stand_behind}
 use Rattle.lines.proofs.SortedLists.{Has-permutation}
-use Rattle.query.specs.declared.ends.SpanEnd.{SpanEnd}
+use Rattle.arcs.specs.declared.step.Step.{Step}
 use Rattle.query.specs.declared.stops.Sides.{Sides}
 use Rattle.query.specs.declared.stops.Sides.TheVariants.{One, Two, More}
-use Rattle.query.specs.Stops.{AreHalts, AreJudged, IsJudged, Means, OnOne, OnThreeOf, beside, halts, sided, sided_all, sides_at, stop_step}
+use Rattle.arcs.specs.Steps.{step}
+use Rattle.query.specs.Stops.{AreHalts, AreJudged, IsJudged, Means, OnOne, OnThreeOf, halts, sided, sided_all, sides_at, stop_step}
 use Rattle.chains.specs.Along.{OnArcs}
 use Rattle.query.specs.Ends.{AmongEnds, HasEnds, by_vertex, vertex_of}
 use Rattle.query.proofs.NetworkMaps.{three_in_two}
@@ -58,11 +59,11 @@ Means-sided (Two a b) H n h = go (position_eq a n) refl (position_eq b n) refl
 Means-sided More H n h = (h.0, h.1, h.2, inr h.3, inr h.4, inr h.5, h.6, h.7, h.8)
 
 -- p is beside the vertex of one of the ends
-abbrev IsSideOf : Pos → List SpanEnd → Type 0
+abbrev IsSideOf : Pos → List Step → Type 0
 IsSideOf p [] = ⊥
 IsSideOf p (e ∷ es) = (p ≡ e.to) ⊎ IsSideOf p es
 
-Means-all : (s : Sides) (H : Pos → Type 0) (es : List SpanEnd) → Means s H → Means (sided_all s es) (λ p. IsSideOf p es ⊎ H p)
+Means-all : (s : Sides) (H : Pos → Type 0) (es : List Step) → Means s H → Means (sided_all s es) (λ p. IsSideOf p es ⊎ H p)
 Means-all s H [] h = Means-iff s H (λ p. ⊥ ⊎ H p) (λ p k. inr k) (λ p k. elim k [ inl z ↦ absurd z | inr f ↦ f ]) h
 Means-all s H (e ∷ es) h =
     Means-iff (sided_all (sided s e.to) es) (λ p. IsSideOf p es ⊎ ((p ≡ e.to) ⊎ H p)) (λ p. IsSideOf p (e ∷ es) ⊎ H p)
@@ -70,34 +71,34 @@ Means-all s H (e ∷ es) h =
     (λ p k. elim k [ inl f ↦ elim f [ inl i ↦ inr (inl i) | inr i ↦ inl i ] | inr f ↦ inr (inr f) ])
     (Means-all (sided s e.to) (λ p. (p ≡ e.to) ⊎ H p) es (Means-sided s H e.to h))
 
-side_has : (v w : Pos) (es : List SpanEnd) → ((x : SpanEnd) → Has x es → x.at ≡ v) → IsSideOf w es → Has (beside v w) es
+side_has : (v w : Pos) (es : List Step) → ((x : Step) → Has x es → x.from ≡ v) → IsSideOf w es → Has (step v w) es
 side_has v w [] at h = absurd h
-side_has v w (e ∷ es) at (inl k) = let here = at e (inl refl) in inl (λ i. record { at = sym here i; to = k i })
+side_has v w (e ∷ es) at (inl k) = let here = at e (inl refl) in inl (λ i. record { from = sym here i; to = k i })
 side_has v w (e ∷ es) at (inr h) = inr (side_has v w es (λ x i. at x (inr i)) h)
 
-has_side : (v w : Pos) (es : List SpanEnd) → Has (beside v w) es → IsSideOf w es
+has_side : (v w : Pos) (es : List Step) → Has (step v w) es → IsSideOf w es
 has_side v w [] h = absurd h
 has_side v w (e ∷ es) (inl k) = inl (ap (λ z. z.to) k)
 has_side v w (e ∷ es) (inr h) = inr (has_side v w es h)
 
 -- what is told of the ends at one vertex
-Means-here : (first : SpanEnd) (here : List SpanEnd) → ((x : SpanEnd) → Has x (first ∷ here) → x.at ≡ first.at) →
-    Means (sides_at first here) (λ w. Has (beside first.at w) (first ∷ here))
+Means-here : (first : Step) (here : List Step) → ((x : Step) → Has x (first ∷ here) → x.from ≡ first.from) →
+    Means (sides_at first here) (λ w. Has (step first.from w) (first ∷ here))
 Means-here first here at =
-    Means-iff (sides_at first here) (λ p. IsSideOf p here ⊎ (p ≡ first.to)) (λ w. Has (beside first.at w) (first ∷ here))
-    (λ p k. side_has first.at p (first ∷ here) at (elim k [ inl f ↦ inr f | inr f ↦ inl f ]))
-    (λ p k. elim (has_side first.at p (first ∷ here) k) [ inl f ↦ inr f | inr f ↦ inl f ])
+    Means-iff (sides_at first here) (λ p. IsSideOf p here ⊎ (p ≡ first.to)) (λ w. Has (step first.from w) (first ∷ here))
+    (λ p k. side_has first.from p (first ∷ here) at (elim k [ inl f ↦ inr f | inr f ↦ inl f ]))
+    (λ p k. elim (has_side first.from p (first ∷ here) k) [ inl f ↦ inr f | inr f ↦ inl f ])
     (Means-all (One first.to) (λ p. p ≡ first.to) here (refl, λ p k. k))
 
 -- the vertices of the ends before these are judged
-pub record Judging (ends left : List SpanEnd) (stops : List Pos) : Type 0 where
-  pub done : List SpanEnd
+pub record Judging (ends left : List Step) (stops : List Pos) : Type 0 where
+  pub done : List Step
   pub is : ends ≡ done ++ left
   pub stand : StandByVertex vertex_of left
-  pub other : (x y : SpanEnd) → Has x done → Has y left → ¬ (x.at ≡ y.at)
+  pub other : (x y : Step) → Has x done → Has y left → ¬ (x.from ≡ y.from)
   pub judged : AreJudged done stops
 
-pub judging_starts : (ends : List SpanEnd) (stops : List Pos) → stops ≡ [] → StandByVertex vertex_of ends → Judging ends ends stops
+pub judging_starts : (ends : List Step) (stops : List Pos) → stops ≡ [] → StandByVertex vertex_of ends → Judging ends ends stops
 judging_starts ends stops e g = record {
   done = [];
   is = refl;
@@ -106,62 +107,62 @@ judging_starts ends stops e g = record {
   judged = λ v. inl ((λ w h. h), ap (λ l. among l v) e);
 }
 
-pub judging_over : (ends left : List SpanEnd) (stops : List Pos) → left ≡ [] → Judging ends left stops → AreJudged ends stops
+pub judging_over : (ends left : List Step) (stops : List Pos) → left ≡ [] → Judging ends left stops → AreJudged ends stops
 judging_over ends left stops e p v =
     subst (λ es. IsJudged es v (among stops v)) (sym (p.is ∙ ap (λ w. p.done ++ w) e ∙ append-nil p.done)) (p.judged v)
 
 -- the ends at one vertex: the first of those that are left, and those that follow it there
-module _ (ends : List SpanEnd) (first : SpanEnd) (here behind : List SpanEnd) (stops new : List Pos) (p : Judging ends (first ∷ (here ++ behind)) stops)
-    (at : (x : SpanEnd) → Has x here → x.at ≡ first.at) (past : (x : SpanEnd) → Has x behind → ¬ (x.at ≡ first.at))
-    (made : (q : Pos) → among new q ≡ stop_step (halts (sides_at first here)) q (among stops q) first.at) where
-  at_first : (x : SpanEnd) → Has x (first ∷ here) → x.at ≡ first.at
-  at_first x (inl e) = ap (λ w. w.at) e
+module _ (ends : List Step) (first : Step) (here behind : List Step) (stops new : List Pos) (p : Judging ends (first ∷ (here ++ behind)) stops)
+    (at : (x : Step) → Has x here → x.from ≡ first.from) (past : (x : Step) → Has x behind → ¬ (x.from ≡ first.from))
+    (made : (q : Pos) → among new q ≡ stop_step (halts (sides_at first here)) q (among stops q) first.from) where
+  at_first : (x : Step) → Has x (first ∷ here) → x.from ≡ first.from
+  at_first x (inl e) = ap (λ w. w.from) e
   at_first x (inr h) = at x h
 
-  in_behind : (x : SpanEnd) → Has x behind → Has x (first ∷ (here ++ behind))
+  in_behind : (x : Step) → Has x behind → Has x (first ∷ (here ++ behind))
   in_behind x h = inr (Has-append_right x here behind h)
 
-  abbrev now : List SpanEnd
+  abbrev now : List Step
   now = p.done ++ (first ∷ here)
 
   -- at its vertex no end stood before
-  none_before : (v : Pos) → v ≡ first.at → (w : Pos) → ¬ Has (beside v w) p.done
-  none_before v e w h = p.other (beside v w) first h (inl refl) e
+  none_before : (v : Pos) → v ≡ first.from → (w : Pos) → ¬ Has (step v w) p.done
+  none_before v e w h = p.other (step v w) first h (inl refl) e
 
-  no_stop_yet : (v : Pos) → v ≡ first.at → among stops v ≡ false
+  no_stop_yet : (v : Pos) → v ≡ first.from → among stops v ≡ false
   no_stop_yet v e = elim (p.judged v) [
     | inl k ↦ k.1
-    | inr k ↦ (let some = Means-some k.0 (λ w. Has (beside v w) p.done) k.1 in absurd (none_before v e some.0 some.1))
+    | inr k ↦ (let some = Means-some k.0 (λ w. Has (step v w) p.done) k.1 in absurd (none_before v e some.0 some.1))
   ]
 
-  judged_here : (v : Pos) → v ≡ first.at → IsJudged now v (among new v)
+  judged_here : (v : Pos) → v ≡ first.from → IsJudged now v (among new v)
   judged_here v e = inr (
     sides_at first here,
-    Means-iff (sides_at first here) (λ w. Has (beside first.at w) (first ∷ here)) (λ w. Has (beside v w) now)
-        (λ w h. Has-append_right (beside v w) p.done (first ∷ here) (subst (λ u. Has (beside u w) (first ∷ here)) (sym e) h))
-        (λ w h. elim (Has-append (beside v w) p.done (first ∷ here) h) [
+    Means-iff (sides_at first here) (λ w. Has (step first.from w) (first ∷ here)) (λ w. Has (step v w) now)
+        (λ w h. Has-append_right (step v w) p.done (first ∷ here) (subst (λ u. Has (step u w) (first ∷ here)) (sym e) h))
+        (λ w h. elim (Has-append (step v w) p.done (first ∷ here) h) [
           | inl k ↦ absurd (none_before v e w k)
-          | inr k ↦ subst (λ u. Has (beside u w) (first ∷ here)) e k
+          | inr k ↦ subst (λ u. Has (step u w) (first ∷ here)) e k
         ])
         (Means-here first here at_first),
-    go (halts (sides_at first here)) ∙ sym (ap (λ o. stop_step (halts (sides_at first here)) v o first.at) (no_stop_yet v e)) ∙ sym (made v),
+    go (halts (sides_at first here)) ∙ sym (ap (λ o. stop_step (halts (sides_at first here)) v o first.from) (no_stop_yet v e)) ∙ sym (made v),
   )
     where
-      go : (b : Bool) → b ≡ cond b (cond (is_eq (position_cmp first.at v)) true false) false
-      go true = sym (ap (λ c. cond c true false) (tied_position first.at v (sym e)))
+      go : (b : Bool) → b ≡ cond b (cond (is_eq (position_cmp first.from v)) true false) false
+      go true = sym (ap (λ c. cond c true false) (tied_position first.from v (sym e)))
       go false = refl
 
-  judged_there : (v : Pos) → ¬ (v ≡ first.at) → IsJudged now v (among new v)
+  judged_there : (v : Pos) → ¬ (v ≡ first.from) → IsJudged now v (among new v)
   judged_there v n = subst (IsJudged now v) (sym kept) (elim (p.judged v) [
     | inl k ↦ inl ((λ w h. k.0 w (back w h)), k.1)
-    | inr k ↦ inr (k.0, Means-iff k.0 (λ w. Has (beside v w) p.done) (λ w. Has (beside v w) now) (λ w h. Has-append_left (beside v w) p.done (first ∷ here) h) back k.1, k.2)
+    | inr k ↦ inr (k.0, Means-iff k.0 (λ w. Has (step v w) p.done) (λ w. Has (step v w) now) (λ w h. Has-append_left (step v w) p.done (first ∷ here) h) back k.1, k.2)
   ])
     where
-      back : (w : Pos) → Has (beside v w) now → Has (beside v w) p.done
-      back w h = elim (Has-append (beside v w) p.done (first ∷ here) h) [ inl k ↦ k | inr k ↦ absurd (n (at_first (beside v w) k)) ]
+      back : (w : Pos) → Has (step v w) now → Has (step v w) p.done
+      back w h = elim (Has-append (step v w) p.done (first ∷ here) h) [ inl k ↦ k | inr k ↦ absurd (n (at_first (step v w) k)) ]
 
-      go : (b : Bool) → cond b (cond (is_eq (position_cmp first.at v)) true (among stops v)) (among stops v) ≡ among stops v
-      go true = ap (λ c. cond c true (among stops v)) (position_apart first.at v n)
+      go : (b : Bool) → cond b (cond (is_eq (position_cmp first.from v)) true (among stops v)) (among stops v) ≡ among stops v
+      go true = ap (λ c. cond c true (among stops v)) (position_apart first.from v n)
       go false = refl
 
       kept : among new v ≡ among stops v
@@ -176,20 +177,20 @@ module _ (ends : List SpanEnd) (first : SpanEnd) (here behind : List SpanEnd) (s
       | inl j ↦ p.other x y j (in_behind y i)
       | inr j ↦ (λ k. past y i (sym k ∙ at_first x j))
     ];
-    judged = λ v. elim (position_decide v first.at) [ inl e ↦ judged_here v e | inr n ↦ judged_there v n ];
+    judged = λ v. elim (position_decide v first.from) [ inl e ↦ judged_here v e | inr n ↦ judged_there v n ];
   }
 
 -- in the form of the code
-pub judging_step : (ends left others : List SpanEnd) (first : SpanEnd) (n : ℕ) (here behind : List SpanEnd) (s : Sides) (stops new : List Pos) → left ≡ first ∷ others → n ≡ count_at vertex_of first.at others →
-    here ≡ take n others → behind ≡ drop n others → s ≡ sides_at first here → ((q : Pos) → among new q ≡ stop_step (halts s) q (among stops q) first.at) →
+pub judging_step : (ends left others : List Step) (first : Step) (n : ℕ) (here behind : List Step) (s : Sides) (stops new : List Pos) → left ≡ first ∷ others → n ≡ count_at vertex_of first.from others →
+    here ≡ take n others → behind ≡ drop n others → s ≡ sides_at first here → ((q : Pos) → among new q ≡ stop_step (halts s) q (among stops q) first.from) →
     Judging ends left stops → Judging ends behind new
 judging_step ends left others first n here behind s stops new l c h b is made p =
     let split : others ≡ here ++ behind = sym (take-append-drop n others) ∙ (λ i. sym h i ++ sym b i) in
     let stand : StandByVertex vertex_of (first ∷ others) = subst (StandByVertex vertex_of) l p.stand in
     advance ends first here behind stops new (subst (λ w. Judging ends w stops) (l ∙ ap (λ w. first ∷ w) split) p)
-    (λ x k. here_at vertex_of first.at others x (subst (Has x) (h ∙ ap (λ m. take m others) c) k))
-    (λ x k. behind_at vertex_of first.at others stand.0 stand.1 x (subst (Has x) (b ∙ ap (λ m. drop m others) c) k))
-    (λ q. made q ∙ ap (λ t. stop_step (halts t) q (among stops q) first.at) is)
+    (λ x k. here_at vertex_of first.from others x (subst (Has x) (h ∙ ap (λ m. take m others) c) k))
+    (λ x k. behind_at vertex_of first.from others stand.0 stand.1 x (subst (Has x) (b ∙ ap (λ m. drop m others) c) k))
+    (λ q. made q ∙ ap (λ t. stop_step (halts t) q (among stops q) first.from) is)
 
 -- no vertex lies on two segments, and on one or three
 pub two_only : (S : Pos → Pos → Type 0) (v : Pos) → OnTwo S v → OnOne S v ⊎ OnThreeOf S v → ⊥
@@ -197,9 +198,9 @@ two_only S v t (inl o) = t.2 (o.2 t.0 t.3 ∙ sym (o.2 t.1 t.4))
 two_only S v t (inr o) = three_in_two S v t o
 
 -- the segments S at a vertex where arcs end are those of the ends, and each other vertex lies on two
-module _ (S : Pos → Pos → Type 0) (ends : List SpanEnd) (stops : List Pos)
-    (on : (v w : Pos) → Has (beside v w) ends → S v w) (all : (v p w : Pos) → Has (beside v p) ends → S v w → Has (beside v w) ends)
-    (others : (v w : Pos) → S v w → Has (beside v w) ends ⊎ OnTwo S v) (judged : AreJudged ends stops) where
+module _ (S : Pos → Pos → Type 0) (ends : List Step) (stops : List Pos)
+    (on : (v w : Pos) → Has (step v w) ends → S v w) (all : (v p w : Pos) → Has (step v p) ends → S v w → Has (step v w) ends)
+    (others : (v w : Pos) → S v w → Has (step v w) ends ⊎ OnTwo S v) (judged : AreJudged ends stops) where
   -- a vertex that is no stop lies on two segments
   stops_meet : TwoSegments S (StopAt stops)
   stops_meet v w free s = elim (others v w s) [
@@ -207,7 +208,7 @@ module _ (S : Pos → Pos → Type 0) (ends : List SpanEnd) (stops : List Pos)
     | inl k ↦ elim (judged v) [ inl none ↦ absurd (none.0 w k) | inr told ↦ go k told.0 told.1 (λ h. free (sym told.2 ∙ h)) ]
   ]
     where
-      go : Has (beside v w) ends → (t : Sides) → Means t (λ p. Has (beside v p) ends) → ¬ (halts t ≡ true) → OnTwo S v
+      go : Has (step v w) ends → (t : Sides) → Means t (λ p. Has (step v p) ends) → ¬ (halts t ≡ true) → OnTwo S v
       go k (One a) m n = absurd (n refl)
       go k (Two a b) m n = (a, b, m.0, on v a m.1, on v b m.2, λ c h. m.3 c (all v w c k h))
       go k More m n = absurd (n refl)
@@ -216,7 +217,7 @@ module _ (S : Pos → Pos → Type 0) (ends : List SpanEnd) (stops : List Pos)
   stops_lie : (v : Pos) → StopAt stops v → OnOne S v ⊎ OnThreeOf S v
   stops_lie v k = elim (judged v) [ inl none ↦ absurd (true_false (among stops v) k none.1) | inr told ↦ go told.0 told.1 (told.2 ∙ k) ]
     where
-      go : (t : Sides) → Means t (λ p. Has (beside v p) ends) → halts t ≡ true → OnOne S v ⊎ OnThreeOf S v
+      go : (t : Sides) → Means t (λ p. Has (step v p) ends) → halts t ≡ true → OnOne S v ⊎ OnThreeOf S v
       go (One a) m n = inl (a, on v a m.0, λ p h. m.1 p (all v a p m.0 h))
       go (Two a b) m n = absurd cc
       go More m n = inr (m.0, m.1, m.2, on v m.0 m.3, on v m.1 m.4, on v m.2 m.5, m.6, m.7, m.8)
@@ -265,41 +266,41 @@ stop_put keys new b v q h e =
 pub stop_left : (keys : List Pos) (b : Bool) (v q : Pos) → b ≡ false → among keys q ≡ stop_step b q (among keys q) v
 stop_left keys b v q h = sym (ap (λ a. cond a (cond (is_eq (position_cmp v q)) true (among keys q)) (among keys q)) h)
 
-among_has : (v w : Pos) (es : List SpanEnd) → AmongEnds v w es → Has (beside v w) es
+among_has : (v w : Pos) (es : List Step) → AmongEnds v w es → Has (step v w) es
 among_has v w [] h = absurd h
-among_has v w (e ∷ es) (inl k) = inl (λ i. record { at = k.0 i; to = k.1 i })
+among_has v w (e ∷ es) (inl k) = inl (λ i. record { from = k.0 i; to = k.1 i })
 among_has v w (e ∷ es) (inr h) = inr (among_has v w es h)
 
-has_among : (v w : Pos) (es : List SpanEnd) → Has (beside v w) es → AmongEnds v w es
+has_among : (v w : Pos) (es : List Step) → Has (step v w) es → AmongEnds v w es
 has_among v w [] h = absurd h
-has_among v w (e ∷ es) (inl k) = inl (ap (λ z. z.at) k, ap (λ z. z.to) k)
+has_among v w (e ∷ es) (inl k) = inl (ap (λ z. z.from) k, ap (λ z. z.to) k)
 has_among v w (e ∷ es) (inr h) = inr (has_among v w es h)
 
 -- the stops that are noted at the ends of arcs of a map
-are_halts : (g : Geometry Pos) → IsSound g → (t : Arcs) → IsTableOf g t → (ks : List ℕ) (ends sorted : List SpanEnd) → HasEnds t.arcs ks ends → IsPermutation ends sorted →
+are_halts : (g : Geometry Pos) → IsSound g → (t : Arcs) → IsTableOf g t → (ks : List ℕ) (ends sorted : List Step) → HasEnds t.arcs ks ends → IsPermutation ends sorted →
     (stops : List Pos) → AreJudged sorted stops → AreHalts t.arcs ks stops
 are_halts g sound t table ks ends sorted has moved stops judged = record {
   exact = λ v. (stops_lie (OnArcs t.arcs ks) sorted stops on all others judged v, lies_stop (OnArcs t.arcs ks) sorted stops on all others judged v);
   meets = stops_meet (OnArcs t.arcs ks) sorted stops on all others judged;
 }
   where
-    back : (v w : Pos) → Has (beside v w) sorted → AmongEnds v w ends
-    back v w h = has_among v w ends (Has-permutation sorted ends (beside v w) (IsPermutation-sym ends sorted moved) h)
+    back : (v w : Pos) → Has (step v w) sorted → AmongEnds v w ends
+    back v w h = has_among v w ends (Has-permutation sorted ends (step v w) (IsPermutation-sym ends sorted moved) h)
 
-    to : (v w : Pos) → AmongEnds v w ends → Has (beside v w) sorted
-    to v w h = Has-permutation ends sorted (beside v w) moved (among_has v w ends h)
+    to : (v w : Pos) → AmongEnds v w ends → Has (step v w) sorted
+    to v w h = Has-permutation ends sorted (step v w) moved (among_has v w ends h)
 
-    on : (v w : Pos) → Has (beside v w) sorted → OnArcs t.arcs ks v w
+    on : (v w : Pos) → Has (step v w) sorted → OnArcs t.arcs ks v w
     on v w h = end_side g sound t table ks v w ((has v w).0 (back v w h))
 
-    all : (v p w : Pos) → Has (beside v p) sorted → OnArcs t.arcs ks v w → Has (beside v w) sorted
+    all : (v p w : Pos) → Has (step v p) sorted → OnArcs t.arcs ks v w → Has (step v w) sorted
     all v p w h s = to v w ((has v w).1 (end_sides g sound t table ks v p w ((has v p).0 (back v p h)) s))
 
-    others : (v w : Pos) → OnArcs t.arcs ks v w → Has (beside v w) sorted ⊎ OnTwo (OnArcs t.arcs ks) v
+    others : (v w : Pos) → OnArcs t.arcs ks v w → Has (step v w) sorted ⊎ OnTwo (OnArcs t.arcs ks) v
     others v w s = elim (end_or_two g sound t table ks v w s) [ inl h ↦ inl (to v w ((has v w).1 h)) | inr h ↦ inr h ]
 
 -- in the form of the code
-pub stops_told : {E : Type 0} (t : Arcs) (ks : List ℕ) (ends sorted slice : List SpanEnd) (r : Result (Vec Pos) E) →
+pub stops_told : {E : Type 0} (t : Arcs) (ks : List ℕ) (ends sorted slice : List Step) (r : Result (Vec Pos) E) →
     HasEnds t.arcs ks ends → IsPermutation ends sorted → IsSorted by_vertex sorted → slice ≡ sorted → IfOk r (λ s. StandByVertex vertex_of slice → AreJudged slice s.items) →
     IfOk r (λ s. (g : Geometry Pos) → IsSound g → IsTableOf g t → AreHalts t.arcs ks s.items)
 stops_told t ks ends sorted slice (Ok s) has moved order e judged = λ g sound table.

@@ -5,7 +5,7 @@ use Rattle.grid.specs.declared.pos.Pos.{Pos}
 use Rattle.lines.specs.Turned.{position_cmp}
 use Rattle.theory.specs.Lists.{BeginsTwo}
 use Rattle.topo.specs.Points.{arc_at}
-use Rattle.query.specs.declared.ends.SpanEnd.{SpanEnd}
+use Rattle.arcs.specs.declared.step.Step.{Step}
 
 -- the list begins with v, w, or it ends with w, v
 abbrev pub EndStep : {V : Type 0} → V → V → List V → Type 0
@@ -16,30 +16,24 @@ abbrev pub OnEnds : List (List Pos) → List ℕ → Pos → Pos → Type 0
 OnEnds arcs [] v w = ⊥
 OnEnds arcs (k ∷ ks) v w = EndStep v w (arc_at arcs k) ⊎ OnEnds arcs ks v w
 
--- the first vertex of a list of two and more, and the next
-abbrev pub begin_of : List Pos → Option SpanEnd
-begin_of [] = None
-begin_of (x ∷ []) = None
-begin_of (x ∷ (y ∷ r)) = Some (record { at = x; to = y })
-
 -- there is an end, of v beside w
-abbrev pub IsEnd : Pos → Pos → Option SpanEnd → Type 0
+abbrev pub IsEnd : Pos → Pos → Option Step → Type 0
 IsEnd v w None = ⊥
-IsEnd v w (Some e) = (v ≡ e.at) × (w ≡ e.to)
+IsEnd v w (Some e) = (v ≡ e.from) × (w ≡ e.to)
 
 -- v beside w is one of the ends
-abbrev pub AmongEnds : Pos → Pos → List SpanEnd → Type 0
+abbrev pub AmongEnds : Pos → Pos → List Step → Type 0
 AmongEnds v w [] = ⊥
-AmongEnds v w (e ∷ es) = ((v ≡ e.at) × (w ≡ e.to)) ⊎ AmongEnds v w es
+AmongEnds v w (e ∷ es) = ((v ≡ e.from) × (w ≡ e.to)) ⊎ AmongEnds v w es
 
 -- the ends are those of the arcs of these numbers
-abbrev pub HasEnds : List (List Pos) → List ℕ → List SpanEnd → Type 0
+abbrev pub HasEnds : List (List Pos) → List ℕ → List Step → Type 0
 HasEnds arcs ks es = (v w : Pos) → AmongEnds v w es ↔ OnEnds arcs ks v w
 
 -- the vertex of an end
-abbrev pub vertex_of : SpanEnd → Pos
-vertex_of e = e.at
+abbrev pub vertex_of : Step → Pos
+vertex_of e = e.from
 
 -- ends by their vertices
-abbrev pub by_vertex : SpanEnd → SpanEnd → Ordering
-by_vertex d e = position_cmp d.at e.at
+abbrev pub by_vertex : Step → Step → Ordering
+by_vertex d e = position_cmp d.from e.from

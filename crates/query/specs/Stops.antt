@@ -10,7 +10,8 @@ use Rattle.chains.specs.declared.segment.Segment.{Segment}
 use Rattle.theory.specs.Lists.{Has}
 use Rattle.theory.specs.Segments.{TwoSegments}
 use Rattle.chains.specs.Along.{OnArcs}
-use Rattle.query.specs.declared.ends.SpanEnd.{SpanEnd}
+use Rattle.arcs.specs.Steps.{step}
+use Rattle.arcs.specs.declared.step.Step.{Step}
 use Rattle.query.specs.declared.stops.Sides.{Sides}
 use Rattle.query.specs.declared.stops.Sides.TheVariants.{One, Two, More}
 
@@ -21,12 +22,12 @@ sided (Two a b) n = cond (position_eq a n) (Two a b) (cond (position_eq b n) (Tw
 sided More n = More
 
 -- and those of each of the ends in turn
-abbrev pub sided_all : Sides → List SpanEnd → Sides
+abbrev pub sided_all : Sides → List Step → Sides
 sided_all s [] = s
 sided_all s (e ∷ es) = sided_all (sided s e.to) es
 
 -- the sides of the vertex of an end, where these are the others there
-abbrev pub sides_at : SpanEnd → List SpanEnd → Sides
+abbrev pub sides_at : Step → List Step → Sides
 sides_at e es = sided_all (One e.to) es
 
 -- whether lines stop there
@@ -39,10 +40,6 @@ halts More = true
 abbrev pub stop_step : Bool → Pos → Bool → Pos → Bool
 stop_step b q old v = cond b (cond (is_eq (position_cmp v q)) true old) old
 
--- the vertex v beside w
-abbrev pub beside : Pos → Pos → SpanEnd
-beside v w = record { at = v; to = w }
-
 -- the sides are those that have H
 abbrev pub Means : Sides → (Pos → Type 0) → Type 0
 Means (One a) H = H a × ((p : Pos) → H p → p ≡ a)
@@ -50,11 +47,11 @@ Means (Two a b) H = (¬ (a ≡ b)) × H a × H b × ((p : Pos) → H p → (p �
 Means More H = (a : Pos) × (b : Pos) × (c : Pos) × H a × H b × H c × (¬ (a ≡ b)) × (¬ (a ≡ c)) × (¬ (b ≡ c))
 
 -- b says of v whether lines stop there: where no end is they don't
-abbrev pub IsJudged : List SpanEnd → Pos → Bool → Type 0
-IsJudged es v b = (((w : Pos) → ¬ Has (beside v w) es) × (b ≡ false)) ⊎ ((s : Sides) × Means s (λ w. Has (beside v w) es) × (halts s ≡ b))
+abbrev pub IsJudged : List Step → Pos → Bool → Type 0
+IsJudged es v b = (((w : Pos) → ¬ Has (step v w) es) × (b ≡ false)) ⊎ ((s : Sides) × Means s (λ w. Has (step v w) es) × (halts s ≡ b))
 
 -- the stops are the vertices of ends at which lines stop
-abbrev pub AreJudged : List SpanEnd → List Pos → Type 0
+abbrev pub AreJudged : List Step → List Pos → Type 0
 AreJudged es stops = (v : Pos) → IsJudged es v (among stops v)
 
 -- v lies on exactly one of the segments

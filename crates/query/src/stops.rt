@@ -9,8 +9,8 @@ ghost use Rattle.std.specs.List.Sorted.{IsPermutation, IsSorted};
 ghost use Rattle.std.specs.Prelude.{◌≡◌, ◌≤◌, IfOk, OnOk, length};
 ghost use Rattle.theory.specs.Geometry.{Geometry, IsSound};
 
-use crate::ends::{SpanEnd, ends_of};
-use chains::ArcTable;
+use crate::ends::ends_of;
+use arcs::{ArcTable, Step};
 use grid::pos::Pos;
 use std::alloc::{AllocError, Global};
 
@@ -47,7 +47,7 @@ fn with_side(sides: Sides, to: Pos) -> Sides
 }
 
 /// The sides of the vertex of an end and of the others there.
-fn sides_of(first: &SpanEnd, others: &[SpanEnd]) -> Sides
+fn sides_of(first: &Step, others: &[Step]) -> Sides
     ensures { result ≡ sides_at first.now others.now }
 {
     let mut sides = Sides::One(first.to);
@@ -69,12 +69,12 @@ fn is_stop(sides: Sides) -> bool
 }
 
 /// How many of the first ends are at a vertex.
-fn count_of(ends: &[SpanEnd], vertex: Pos) -> usize
+fn count_of(ends: &[Step], vertex: Pos) -> usize
     ensures count { result ≡ count_at vertex_of vertex ends.now }
     ensures within { result ≤ length ends.now }
 {
     for (i, end) in ends.iter().enumerate() {
-        if end.at != vertex {
+        if end.from != vertex {
             return i;
         }
     }
@@ -93,24 +93,24 @@ fn add_stop(stops: &mut Vec<Pos>, vertex: Pos, sides: Sides) -> Result<(), Alloc
 }
 
 /// The vertices of ends, which are vertex by vertex, that do not lie on two segments.
-fn stops_by(alloc: Global, ends: &[SpanEnd]) -> Result<Vec<Pos>, AllocError>
+fn stops_by(alloc: Global, ends: &[Step]) -> Result<Vec<Pos>, AllocError>
     ensures { IfOk result (λ s. StandByVertex vertex_of ends.now → AreJudged ends.now s.items) }
 {
     let mut stops = Vec::new(alloc);
     let mut left = ends;
     while let Some((first, others)) = left.split_first() {
-        let (here, behind) = others.split_at(count_of(others, first.at));
-        add_stop(&mut stops, first.at, sides_of(first, here))?;
+        let (here, behind) = others.split_at(count_of(others, first.from));
+        add_stop(&mut stops, first.from, sides_of(first, here))?;
         left = behind;
     }
     Ok(stops)
 }
 
-fn sort_ends(ends: &mut Vec<SpanEnd>)
+fn sort_ends(ends: &mut Vec<Step>)
     ensures permutation { IsPermutation ends.old.items ends.new.items }
     ensures sorted { IsSorted by_vertex ends.new.items }
 {
-    ends.sort_unstable_by(|a, b| a.at.cmp(&b.at));
+    ends.sort_unstable_by(|a, b| a.from.cmp(&b.from));
 }
 
 /// The vertices that lie on a number of segments of the arcs other than two. A vertex inside an arc

@@ -45,13 +45,15 @@ use Rattle.topo.proofs.Sound.{are_sound}
 use Rattle.topo.proofs.Walks.{walked_stitched}
 use Rattle.topo.specs.LayerLaws.Leaving.{layer_less}
 use Rattle.refine.specs.Borrowed.{all_borrowed}
-use Rattle.topo.specs.LayerLaws.LeftLists.{both_ends, line_ends, marked_by}
-use Rattle.refine.specs.LeftLists.{body_ends, body_refs, layer_ends, layer_refs, layers_ends, layers_refs}
+use Rattle.topo.specs.LayerLaws.LeftLists.{both_ends, line_ends}
+use Rattle.topo.specs.UsedArcs.{body_refs, layer_refs, layers_refs}
+use Rattle.refine.specs.LeftLists.{body_ends, layer_ends, layers_ends}
 use Rattle.refine.specs.declared.remove.LayerLeft.{LayerLeft}
 use Rattle.topo.specs.LayerLaws.Less.{layer_over_healed, layers_left, less, marks_of}
 use Rattle.refine.specs.Removals.{AreJoinedOf}
 use Rattle.topo.proofs.LayerLawsLemmas.LeftGeometries as left
-use Rattle.topo.proofs.LayerLawsLemmas.LeftMarks.{marks_tell}
+use Rattle.arcs.specs.ArcMarks.{marks_set}
+use Rattle.arcs.proofs.SetMarks.{marks_tell}
 use Rattle.topo.proofs.LayerLawsLemmas.Passing.{pass_marks}
 use Rattle.topo.proofs.LayerLawsLemmas.RecutGeometries.{order}
 use Rattle.topo.proofs.LayerLawsLemmas.HealedLayers.{parts_left}
@@ -202,18 +204,18 @@ module _ (arcs : List (List Pos)) where
 
 pub record IsMade (t : TopologyParts) (r : Layers) (ls : List LayerParts) (kept : List Bool) (ends : List Pos) (j : HealedParts) : Type 0 where
   pub left_are : ls ≡ map_list (layer_less t.arcs.arcs r) t.layers
-  pub kept_are : kept ≡ marked_by (replicate (length t.arcs.arcs) false) (layers_refs ls)
+  pub kept_are : kept ≡ marks_set true (replicate (length t.arcs.arcs) false) (layers_refs ls)
   pub ends_are : ends ≡ layers_ends t.arcs.arcs ls
   pub refined : (g u : Geometry Pos) → IsLeftBy g u t.arcs kept ends → IsHealedOf g u t.arcs j
 
 -- from what is lent and from marks and ends as they are handed over
 pub made_of : {t : TopologyParts} {r : Layers} {stay here there : List LayerLeft} {kept marks : List Bool} {ends places : List Pos} {a b : Arcs} {j : HealedParts} →
-    all_borrowed stay ≡ map_list (layer_less t.arcs.arcs r) t.layers → a ≡ t.arcs → here ≡ stay → kept ≡ marked_by (replicate (length a.arcs) false) (layers_refs (all_borrowed here)) →
+    all_borrowed stay ≡ map_list (layer_less t.arcs.arcs r) t.layers → a ≡ t.arcs → here ≡ stay → kept ≡ marks_set true (replicate (length a.arcs) false) (layers_refs (all_borrowed here)) →
     there ≡ stay → ends ≡ layers_ends t.arcs.arcs (all_borrowed there) → b ≡ t.arcs → marks ≡ kept → places ≡ ends →
     ((g u : Geometry Pos) → IsLeftBy g u b marks places → IsHealedOf g u b j) → IsMade t r (all_borrowed stay) kept ends j
 made_of {t = t} {kept = kept} {marks = marks} {ends = ends} {b = b} {j = j} l ae he k te n be me pe refined = record {
   left_are = l;
-  kept_are = k ∙ (λ i. marked_by (replicate (length (ae i).arcs) false) (layers_refs (all_borrowed (he i))));
+  kept_are = k ∙ (λ i. marks_set true (replicate (length (ae i).arcs) false) (layers_refs (all_borrowed (he i))));
   ends_are = n ∙ ap (λ w. layers_ends t.arcs.arcs (all_borrowed w)) te;
   refined = λ g u.
       subst (λ w. IsLeftBy g u w kept ends → IsHealedOf g u w j) be

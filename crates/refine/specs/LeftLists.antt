@@ -1,24 +1,11 @@
--- Which arcs the geometries that stay use, and where their lines begin and end.
+-- Where the lines of the geometries that stay begin and end.
 use Rattle.std.specs.Prelude.{List}
 use Rattle.grid.specs.declared.pos.Pos.{Pos}
-use Rattle.theory.specs.ArcNumbers.{ArcRef}
-use Rattle.theory.specs.Lists.{gathered, joined}
-use Rattle.topo.specs.BodyLists.{body_lines, body_lists}
+use Rattle.theory.specs.Lists.{gathered}
+use Rattle.topo.specs.BodyLists.{body_lines}
 use Rattle.topo.specs.Bodies.{Body}
 use Rattle.topo.specs.Parts.{LayerParts}
 use Rattle.topo.specs.LayerLaws.LeftLists.{line_ends}
-
--- the used arcs of a body
-abbrev pub body_refs : Body → List ArcRef
-body_refs b = joined (body_lists b)
-
--- those of a layer's geometries
-abbrev pub layer_refs : LayerParts → List ArcRef
-layer_refs l = gathered (λ g. body_refs g.body) l.geometries
-
--- those of all layers
-abbrev pub layers_refs : List LayerParts → List ArcRef
-layers_refs ls = gathered layer_refs ls
 
 -- the ends of a body's lines
 abbrev pub body_ends : List (List Pos) → Body → List Pos

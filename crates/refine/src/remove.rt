@@ -1,28 +1,30 @@
 //! Taking features out of a topology: the geometries that stay keep their arcs, which are joined again
 //! where no junction is left. A geometry is stitched only where a removed feature has its id and properties.
 ghost use Rattle.topo.specs.LayerLaws.Leaving.{from_on, is_first, layer_less, order_to, others};
-ghost use Rattle.topo.specs.LayerLaws.LeftLists.{line_ends as ends_of_line, marked_by};
+ghost use Rattle.topo.specs.LayerLaws.LeftLists.{line_ends as ends_of_line};
 ghost use Rattle.topo.specs.LayerLaws.Less as healed_list;
 ghost use Rattle.topo.specs.LayerLaws.Less.{less};
+ghost use Rattle.arcs.specs.ArcMarks.{marks_set};
 ghost use Rattle.lines.specs.Turned.{position_cmp};
 ghost use Rattle.merging.specs.declared.fault.JoinFault.TheVariants.{OtherGrid};
-ghost use Rattle.refine.specs.LeftLists.{body_ends, body_refs, layer_ends, layer_refs, layers_ends, layers_refs};
+ghost use Rattle.refine.specs.LeftLists.{body_ends, layer_ends, layers_ends};
 ghost use Rattle.refine.specs.Borrowed.{all_borrowed, borrowed};
 ghost use Rattle.refine.specs.Removals.{IsWithoutBy};
 ghost use Rattle.split_heal.specs.Starts.{starts_by};
 ghost use Rattle.shapes.specs.Maps.{Layers, features_at, set_of};
 ghost use Rattle.shapes.specs.Sets as set;
 ghost use Rattle.std.specs.Option.{option_map};
-ghost use Rattle.std.specs.Prelude.{◌≡◌, ◌<◌, ◌≤◌, ◌^◌, ◌++◌, ◌↔◌, length, false, true, replicate, IfOk, IsErrOf, IsNone, OnOk, map as map_list, set as with_mark, slice_get};
-ghost use Rattle.theory.specs.Lists.{gathered, joined};
+ghost use Rattle.std.specs.Prelude.{◌≡◌, ◌<◌, ◌≤◌, ◌^◌, ◌++◌, ◌↔◌, length, false, true, replicate, IfOk, IsErrOf, IsNone, OnOk, map as map_list, slice_get};
 ghost use Rattle.theory.specs.Healing as joining;
 ghost use Rattle.topo.specs.Features.{HasFeature, IsKnownOf};
 ghost use Rattle.topo.specs.GeometryOrder.{HaveFeatures};
 ghost use Rattle.topo.specs.OfMap.{IsOf};
+ghost use Rattle.topo.specs.UsedArcs.{layer_refs, layers_refs};
 
 use crate::cut::on_one_grid;
 use crate::difference::layers_without;
 use crate::fault::JoinFault;
+use arcs::ArcMarks;
 use chains::table::{ArcRef, ArcTable};
 use faults::OutOfMemory;
 use grid::Pos;
@@ -35,7 +37,7 @@ use std::alloc::Global;
 use std::cmp::Ordering;
 use std::collections::{BTreeSet, VecDeque};
 use std::marker::Model;
-use topo::{Body, Geom, Layer, NewLists, Topology, copy_rewritten, stitching};
+use topo::{Body, Geom, Layer, NewLists, Topology, copy_rewritten, mark_body, stitching};
 
 /// What is left of a topology, and the old arcs that each of its arcs is joined of.
 #[derive(Drop)]
@@ -221,40 +223,16 @@ fn layers_left<'a>(
     Ok(layers)
 }
 
-fn mark(kept: &mut [bool], arc: usize)
-    ensures { kept.new ≡ with_mark kept.old arc true }
-{
-    if arc < kept.len() {
-        kept[arc] = true;
-    }
-}
-
-fn mark_list(kept: &mut [bool], used: &[ArcRef])
-    ensures { kept.new ≡ marked_by kept.old used.now }
-{
-    for arc in used {
-        mark(kept, arc.arc);
-    }
-}
-
-fn mark_body(kept: &mut [bool], body: &Body)
-    ensures { kept.new ≡ marked_by kept.old (body_refs body.now) }
-{
-    for used in body.parts() {
-        mark_list(kept, used.as_slice());
-    }
-}
-
-fn mark_layer(kept: &mut [bool], layer: &LayerLeft)
-    ensures { kept.new ≡ marked_by kept.old (layer_refs (borrowed layer.now)) }
+fn mark_layer(kept: &mut ArcMarks, layer: &LayerLeft)
+    ensures { kept.new ≡ marks_set true kept.old (layer_refs (borrowed layer.now)) }
 {
     for geometry in &layer.geometries {
         mark_body(kept, &geometry.body);
     }
 }
 
-fn mark_layers(kept: &mut [bool], layers: &[LayerLeft])
-    ensures { kept.new ≡ marked_by kept.old (layers_refs (all_borrowed layers.now)) }
+fn mark_layers(kept: &mut ArcMarks, layers: &[LayerLeft])
+    ensures { kept.new ≡ marks_set true kept.old (layers_refs (all_borrowed layers.now)) }
 {
     for layer in layers {
         mark_layer(kept, layer);
@@ -262,10 +240,10 @@ fn mark_layers(kept: &mut [bool], layers: &[LayerLeft])
 }
 
 /// A mark for each arc, set where a geometry that stays uses it.
-fn arcs_kept(alloc: Global, arcs: &ArcTable, layers: &[LayerLeft]) -> Result<Vec<bool>, OutOfMemory>
-    ensures { IfOk result (λ v. v.items ≡ marked_by (replicate (length arcs.now.arcs) false) (layers_refs (all_borrowed layers.now))) }
+fn arcs_kept(alloc: Global, arcs: &ArcTable, layers: &[LayerLeft]) -> Result<ArcMarks, OutOfMemory>
+    ensures { IfOk result (λ v. v ≡ marks_set true (replicate (length arcs.now.arcs) false) (layers_refs (all_borrowed layers.now))) }
 {
-    let mut kept = vec![in alloc; false; arcs.len()]?;
+    let mut kept = ArcMarks::none(alloc, arcs.len())?;
     mark_layers(&mut kept, layers);
     Ok(kept)
 }
@@ -351,7 +329,11 @@ impl NewLists for JoinedLists<'_> {
 }
 
 /// A layer that stays by the new arcs.
-fn layer_over_healed(alloc: Global, arcs: &HealedArcs, layer: &LayerLeft) -> Result<Layer, OutOfMemory>
+fn layer_over_healed(
+    alloc: Global,
+    arcs: &HealedArcs,
+    layer: &LayerLeft,
+) -> Result<Layer, OutOfMemory>
     ensures { IfOk result (λ l. l ≡ healed_list.layer_over_healed arcs.now.arcs.arcs (starts_by arcs.now.pieces) (borrowed layer.now)) }
 {
     let name = layer.name.copy(alloc)?;
@@ -392,7 +374,7 @@ fn removal_of(
 {
     let kept = arcs_kept(alloc, topology.arcs(), left)?;
     let ends = line_ends(alloc, topology, left)?;
-    let joined = heal(alloc, topology.arcs(), &kept, &ends)?;
+    let joined = heal(alloc, topology.arcs(), kept.as_slice(), &ends)?;
     let layers = layers_over_healed(alloc, &joined, left)?;
     let (arcs, pieces) = joined.into_parts();
     let topology = Topology::from_parts_without_bbox(topology.grid(), arcs, layers);

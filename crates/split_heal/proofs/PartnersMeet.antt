@@ -6,7 +6,7 @@ use Rattle.std.specs.List.Sorted.{IsPermutation, IsSorted}
 use Rattle.std.specs.Ordering.{bool_cmp, nat_cmp, ordering_then}
 use Rattle.std.specs.declared.cmp.Ordering.{Ordering}
 use Rattle.std.proofs.lemmas.Map.Keys.{IsDistinct-IsPermutation}
-use Rattle.theory.specs.ArcNumbers.{ArcRef, along}
+use Rattle.theory.specs.ArcNumbers.{ArcRef}
 use Rattle.theory.specs.Lists.{Distinct, Has}
 use Rattle.theory.specs.Validity.{BeginsAt}
 use Rattle.theory.proofs.Lists.{Has-append, Has-append_left, Has-append_right}
@@ -15,10 +15,12 @@ use Rattle.lines.specs.Positions.{position_total}
 use Rattle.lines.specs.Turned.{position_cmp}
 use Rattle.lines.proofs.Positions.{both_intro, both_true, true_false}
 use Rattle.lines.proofs.SortedLists.{Rises, Up, rises_from_sorted, up_from_rises}
+use Rattle.arcs.specs.Ends.{ends_along, first_end}
+use Rattle.arcs.proofs.EndsAlong.{ends_run, run_ends}
 use Rattle.arcs.proofs.Merged.{then_less}
 use Rattle.split_heal.specs.ArcUseMap.{same_way}
 use Rattle.split_heal.specs.declared.pseudo_nodes.ArcEnd.{ArcEnd}
-use Rattle.split_heal.specs.PseudoNodes.{AreGrouped, Begins, all_ends, begin_at, end_at, end_if, ends_from, first_if, use_of, used_at}
+use Rattle.split_heal.specs.PseudoNodes.{AreGrouped, Begins, all_ends, begin_at, end_at, end_if, ends_from, use_of, used_at}
 use Rattle.split_heal.proofs.ByUses.{one_way, own_way}
 
 pos_same : (v q : Pos) → Some v ≡ Some q → v ≡ q
@@ -74,15 +76,14 @@ module _ (arcs : List (List Pos)) where
       way true h = Has-append_right (end_at v p) (ends_from arcs false ks) (ends_from arcs true ks) h
 
   pub begins_at : (q : Pos) (p : ArcRef) → begin_at arcs p ≡ Some q → BeginsAt arcs q p
-  begins_at q p e = go (along arcs p) refl e
+  begins_at q p e = go (ends_along arcs p) refl e
     where
-      go : (o : Option (List Pos)) → along arcs p ≡ o → first_if o ≡ Some q → BeginsAt arcs q p
+      go : (o : Option (Pos × Pos)) → ends_along arcs p ≡ o → first_end o ≡ Some q → BeginsAt arcs q p
       go None f k = absurd cc
-      go (Some []) f k = absurd cc
-      go (Some (x ∷ l)) f k = (l, f ∙ ap (λ w. Some (w ∷ l)) (pos_same x q k))
+      go (Some (x, y)) f k = let t = ends_run arcs p x y f in (t.0, t.1 ∙ ap (λ w. Some (w ∷ t.0)) (pos_same x q k))
 
   pub at_begins : (q : Pos) (p : ArcRef) → BeginsAt arcs q p → begin_at arcs p ≡ Some q
-  at_begins q p t = ap first_if t.1
+  at_begins q p (l, e) = ap first_end (run_ends arcs p q l e)
 
 -- no used arc has two of the ends
 abbrev AllDiffer : List ArcEnd → Type 0

@@ -1,23 +1,19 @@
 -- The ends of arcs that meet at a vertex, and which arc goes on from another.
-use Rattle.std.specs.Prelude.{◌≡◌, ℕ, Bool, true, false, cond, List, [], ◌∷◌, ◌++◌, ◌⊎◌, Option, Some, None, slice_get}
+use Rattle.std.specs.Prelude.{◌≡◌, ℕ, Bool, true, false, cond, List, [], ◌∷◌, ◌++◌, ◌⊎◌, Option, Some, None}
 use Rattle.std.specs.Ordering.{is_gt}
-use Rattle.theory.specs.ArcNumbers.{ArcRef, along}
+use Rattle.theory.specs.ArcNumbers.{ArcRef}
 use Rattle.theory.specs.Lists.{Has}
 use Rattle.grid.specs.declared.pos.Pos.{Pos}
 use Rattle.lines.specs.Turned.{position_cmp}
 use Rattle.arcs.specs.Among.{among}
+use Rattle.arcs.specs.Ends.{ends_along, first_end}
 use Rattle.split_heal.specs.ArcUseMap.{noted_of, with_noted}
 use Rattle.split_heal.specs.declared.pseudo_nodes.ArcEnd.{ArcEnd}
 use Rattle.split_heal.specs.declared.pseudo_nodes.PseudoNodes.{PseudoNodes}
 
--- the first vertex of a list, where there is one
-abbrev pub first_if : Option (List Pos) → Option Pos
-first_if None = None
-first_if (Some l) = slice_get l 0
-
 -- the vertex at which a used arc begins
 abbrev pub begin_at : List (List Pos) → ArcRef → Option Pos
-begin_at arcs a = first_if (along arcs a)
+begin_at arcs a = first_end (ends_along arcs a)
 
 -- arc k used in this direction
 abbrev pub use_of : Bool → ℕ → ArcRef

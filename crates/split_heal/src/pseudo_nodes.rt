@@ -4,7 +4,7 @@ ghost use Rattle.lines.specs.ByVertex.{count_at};
 ghost use Rattle.lines.specs.Pairs.{position_eq};
 ghost use Rattle.split_heal.specs.ArcUseMap.{noted_of};
 ghost use Rattle.split_heal.specs.PseudoNodes.{AreGrouped, Begins, IsVerdict, all_ends, begin_at, end_at, end_if, ends_from, paired, partner_in, used_at, vertex_of, with_pair};
-ghost use Rattle.std.specs.Prelude.{◌≡◌, ◌≤◌, ◌++◌, IfOk, OnOk, length, reverse, slice_get};
+ghost use Rattle.std.specs.Prelude.{◌≡◌, ◌≤◌, ◌++◌, IfOk, OnOk, length};
 ghost use Rattle.theory.specs.ArcNumbers as numbers;
 ghost use Rattle.theory.specs.Lists.{Distinct, Has};
 
@@ -46,36 +46,11 @@ pub(crate) struct PseudoNodes {
     partners: ArcUseMap<ArcRef>,
 }
 
-fn first_of(arc: &[Pos]) -> Option<Pos>
-    ensures { result ≡ slice_get arc.now 0 }
-{
-    arc.first().copied()
-}
-
-fn last_of(arc: &[Pos]) -> Option<Pos>
-    ensures { result ≡ slice_get (reverse arc.now) 0 }
-{
-    let (last, _) = arc.split_last()?;
-    Some(*last)
-}
-
-/// The vertex at which a used arc begins.
-fn begin_of(arcs: &ArcTable, used: ArcRef) -> Option<Pos>
-    ensures { result ≡ begin_at arcs.now.arcs used }
-{
-    let arc = arcs.arc(used.arc)?;
-    if used.reversed {
-        last_of(arc)
-    } else {
-        first_of(arc)
-    }
-}
-
 /// Adds the end of a used arc, where there is such an arc.
 fn add_end(ends: &mut Vec<ArcEnd>, arcs: &ArcTable, used: ArcRef) -> Result<(), AllocError>
     ensures { OnOk result (ends.new.items ≡ ends.old.items ++ end_if (begin_at arcs.now.arcs used) used) }
 {
-    if let Some(vertex) = begin_of(arcs, used) {
+    if let Some((vertex, _)) = arcs.ends_along(used) {
         ends.push(ArcEnd {
             vertex,
             arc: used.arc,

@@ -1,48 +1,29 @@
 //! Walks along arcs that go on from one another.
 ghost use Rattle.split_heal.specs.PseudoNodes.{partner_in};
-ghost use Rattle.split_heal.specs.Walks.{Adds, AddsBegun, AddsSingle, ArePaired, AreRuns, AreWalked, EndsGone, Goes, GoesOn, Walk, count_left, is_left, some_one, without};
+ghost use Rattle.split_heal.specs.Walks.{Adds, AddsBegun, AddsSingle, ArePaired, AreRuns, AreWalked, EndsGone, Goes, GoesOn, Walk, count_left, some_one};
 ghost use Rattle.std.specs.Prelude.{◌≡◌, ◌≤◌, ◌+◌, IfOk, OnOk, List, Bool};
 ghost use Rattle.theory.specs.ArcNumbers as numbers;
 
 use crate::arc_run::ArcRun;
 use crate::pseudo_nodes::PseudoNodes;
+use arcs::ArcMarks;
 use chains::table::ArcRef;
 use std::alloc::{AllocError, Global};
 
 /// Walks so far: which arcs are left, and the runs of those that were taken.
 #[derive(Drop)]
 struct Walker {
-    left: Vec<bool>,
+    left: ArcMarks,
     runs: Vec<ArcRun>,
 }
 
-/// Whether an arc is left.
-fn stays(left: &[bool], arc: usize) -> bool
-    ensures { result ≡ is_left left.now arc }
-{
-    arc < left.len() && left[arc]
-}
-
-/// Takes an arc, and answers whether it was left.
-fn take(left: &mut Vec<bool>, arc: usize) -> bool
-    ensures was { result ≡ is_left left.old.items arc }
-    ensures taken { left.new.items ≡ without left.old.items arc }
-{
-    if arc >= left.len() {
-        return false;
-    }
-    let was = left[arc];
-    left[arc] = false;
-    was
-}
-
 /// Takes the used arc that goes on from another, if it is left.
-fn take_next(meeting: &PseudoNodes, left: &mut Vec<bool>, used: ArcRef) -> Option<ArcRef>
-    ensures goes { (run : List numbers.ArcRef) (after : List Bool) → GoesOn (partner_in meeting.now) left.new.items result run after → Goes (partner_in meeting.now) left.old.items used run after }
-    ensures fewer { count_left left.new.items + some_one result ≤ count_left left.old.items }
+fn take_next(meeting: &PseudoNodes, left: &mut ArcMarks, used: ArcRef) -> Option<ArcRef>
+    ensures goes { (run : List numbers.ArcRef) (after : List Bool) → GoesOn (partner_in meeting.now) left.new result run after → Goes (partner_in meeting.now) left.old used run after }
+    ensures fewer { count_left left.new + some_one result ≤ count_left left.old }
 {
     let next = meeting.partner(used.flip())?;
-    if take(left, next.arc) {
+    if left.clear(next.arc) {
         Some(next)
     } else {
         None
@@ -53,10 +34,10 @@ fn take_next(meeting: &PseudoNodes, left: &mut Vec<bool>, used: ArcRef) -> Optio
 fn walk(
     alloc: Global,
     meeting: &PseudoNodes,
-    left: &mut Vec<bool>,
+    left: &mut ArcMarks,
     from: ArcRef,
 ) -> Result<ArcRun, AllocError>
-    ensures { IfOk result (λ r. Walk (partner_in meeting.now) left.old.items from r left.new.items) }
+    ensures { IfOk result (λ r. Walk (partner_in meeting.now) left.old from r left.new) }
 {
     let mut next = take_next(meeting, left, from);
     if next.is_none() {
@@ -79,9 +60,9 @@ impl Walker {
         meeting: &PseudoNodes,
         from: ArcRef,
     ) -> Result<(), AllocError>
-        ensures { OnOk result (Adds (partner_in meeting.now) self.old.left.items self.old.runs.items from self.new.left.items self.new.runs.items) }
+        ensures { OnOk result (Adds (partner_in meeting.now) self.old.left self.old.runs.items from self.new.left self.new.runs.items) }
     {
-        if !take(&mut self.left, from.arc) {
+        if !self.left.clear(from.arc) {
             return Ok(());
         }
         let run = walk(alloc, meeting, &mut self.left, from)?;
@@ -96,9 +77,9 @@ impl Walker {
         meeting: &PseudoNodes,
         from: ArcRef,
     ) -> Result<(), AllocError>
-        ensures { OnOk result (AddsBegun (partner_in meeting.now) self.old.left.items self.old.runs.items from self.new.left.items self.new.runs.items) }
+        ensures { OnOk result (AddsBegun (partner_in meeting.now) self.old.left self.old.runs.items from self.new.left self.new.runs.items) }
     {
-        if !stays(&self.left, from.arc) || meeting.partner(from).is_some() {
+        if !self.left.is_set(from.arc) || meeting.partner(from).is_some() {
             return Ok(());
         }
         self.add_run(alloc, meeting, from)
@@ -111,7 +92,7 @@ impl Walker {
         meeting: &PseudoNodes,
         from: ArcRef,
     ) -> Result<(), AllocError>
-        ensures { OnOk result (AddsSingle (partner_in meeting.now) self.old.left.items self.old.runs.items from self.new.left.items self.new.runs.items) }
+        ensures { OnOk result (AddsSingle (partner_in meeting.now) self.old.left self.old.runs.items from self.new.left self.new.runs.items) }
     {
         if meeting.partner(from.flip()).is_some() {
             return Ok(());
@@ -127,7 +108,7 @@ impl Walker {
         meeting: &PseudoNodes,
         kept: &[bool],
     ) -> Result<(), AllocError>
-        ensures { OnOk result (ArePaired kept.now (partner_in meeting.now) → AreWalked kept.now (partner_in meeting.now) self.old.left.items self.old.runs.items → AreWalked kept.now (partner_in meeting.now) self.new.left.items self.new.runs.items) }
+        ensures { OnOk result (ArePaired kept.now (partner_in meeting.now) → AreWalked kept.now (partner_in meeting.now) self.old.left self.old.runs.items → AreWalked kept.now (partner_in meeting.now) self.new.left self.new.runs.items) }
     {
         for arc in 0..kept.len() {
             let ahead = ArcRef {
@@ -146,7 +127,7 @@ impl Walker {
         meeting: &PseudoNodes,
         kept: &[bool],
     ) -> Result<(), AllocError>
-        ensures { OnOk result (ArePaired kept.now (partner_in meeting.now) → AreWalked kept.now (partner_in meeting.now) self.old.left.items self.old.runs.items → AreWalked kept.now (partner_in meeting.now) self.new.left.items self.new.runs.items × EndsGone kept.now (partner_in meeting.now) self.new.left.items) }
+        ensures { OnOk result (ArePaired kept.now (partner_in meeting.now) → AreWalked kept.now (partner_in meeting.now) self.old.left self.old.runs.items → AreWalked kept.now (partner_in meeting.now) self.new.left self.new.runs.items × EndsGone kept.now (partner_in meeting.now) self.new.left) }
     {
         for arc in 0..kept.len() {
             let ahead = ArcRef {
@@ -170,7 +151,7 @@ impl Walker {
         meeting: &PseudoNodes,
         kept: &[bool],
     ) -> Result<(), AllocError>
-        ensures { OnOk result (ArePaired kept.now (partner_in meeting.now) → AreWalked kept.now (partner_in meeting.now) self.old.left.items self.old.runs.items → EndsGone kept.now (partner_in meeting.now) self.old.left.items → AreRuns kept.now (partner_in meeting.now) self.new.runs.items) }
+        ensures { OnOk result (ArePaired kept.now (partner_in meeting.now) → AreWalked kept.now (partner_in meeting.now) self.old.left self.old.runs.items → EndsGone kept.now (partner_in meeting.now) self.old.left → AreRuns kept.now (partner_in meeting.now) self.new.runs.items) }
     {
         for arc in 0..kept.len() {
             let ahead = ArcRef {
@@ -192,7 +173,7 @@ pub(crate) fn runs_of(
 ) -> Result<Vec<ArcRun>, AllocError>
     ensures { IfOk result (λ v. ArePaired kept.now (partner_in meeting.now) → AreRuns kept.now (partner_in meeting.now) v.items) }
 {
-    let left = kept.to_vec(alloc)?;
+    let left = ArcMarks::of(alloc, kept)?;
     let runs = Vec::new(alloc);
     let mut walker = Walker { left, runs };
     walker.add_single_runs(alloc, meeting, kept)?;

@@ -11,6 +11,5 @@ pub mod LessEntries
 pub mod LeftGeometries
 pub mod HealedLayers
 pub mod JoinUndone
-pub mod LeftMarks
 pub mod Passing
 pub mod LeftEnds

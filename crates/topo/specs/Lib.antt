@@ -4,6 +4,7 @@ pub mod Left
 pub mod Bodies
 pub mod BodyLists
 pub mod Parts
+pub mod UsedArcs
 pub mod Box
 pub mod OfMap
 pub mod Points

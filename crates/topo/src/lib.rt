@@ -15,6 +15,7 @@ pub mod order;
 mod rewritten;
 pub mod stitching;
 pub mod topology;
+pub mod used_arcs;
 pub mod walk;
 pub mod writing;
 
@@ -26,4 +27,5 @@ pub use rewritten::{
     copy_rewritten, geometries_rewritten, geometry_rewritten, layer_rewritten, layers_rewritten,
 };
 pub use topology::{Layer, Topology};
+pub use used_arcs::mark_body;
 pub use walk::Walk;

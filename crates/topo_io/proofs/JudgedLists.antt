@@ -10,8 +10,8 @@ use Rattle.lines.specs.declared.shape_fault.ShapeFault.{ShapeFault}
 use Rattle.lines.proofs.Positions.{position_true}
 use Rattle.reading.specs.Fault.{here}
 use Rattle.reading.specs.Outlines.{outline_faults, outline_kind}
-use Rattle.validate.specs.Chaining.{ends_along}
-use Rattle.validate.proofs.ChainedLists.{ends_run}
+use Rattle.arcs.specs.Ends.{ends_along}
+use Rattle.arcs.proofs.EndsAlong.{ends_run}
 use Rattle.theory.specs.ArcNumbers.{ArcRef, StitchFrom, StitchTo}
 use Rattle.theory.specs.ArcNumbers as numbers
 use Rattle.theory.specs.Lists.{last_of}

@@ -5,7 +5,6 @@ pub mod ComingAgain
 pub mod NodedArcs
 pub mod ChainedLists
 pub mod Once
-pub mod Marking
 pub mod Listing
 pub mod Starting
 pub mod Threes

@@ -16,12 +16,14 @@ use Rattle.chains.specs.OfArcs.{table_as_map}
 use Rattle.arcs.specs.Table.{free_at, is_loop_if}
 use Rattle.chains.proofs.TablesAsMap.{has_open, open_has}
 use Rattle.validate.specs.Lists.{GoesRound, IsValidLine, IsValidRing, none_free}
-use Rattle.validate.specs.UsedArcs.{each_unmarked}
+use Rattle.arcs.specs.ArcMarks.{each_unmarked}
 use Rattle.validate.specs.ArcEnds.{from_to, line_ends}
-use Rattle.validate.specs.Chaining.{ends_along, run_from}
+use Rattle.arcs.specs.Ends.{ends_along}
+use Rattle.validate.specs.Chaining.{run_from}
 use Rattle.validate.specs.RingStarts.{starts_least}
-use Rattle.validate.proofs.Marking.{once_told, told_once}
-use Rattle.validate.proofs.ChainedLists.{run_ends, runs_from, starts_there}
+use Rattle.arcs.proofs.SetMarks.{once_told, told_once}
+use Rattle.arcs.proofs.EndsAlong.{run_ends}
+use Rattle.validate.proofs.ChainedLists.{runs_from, starts_there}
 use Rattle.validate.proofs.Starting.{least_told, told_least}
 
 -- what runs uses arcs that there are

@@ -7,6 +7,7 @@ use Rattle.theory.specs.Refinement.{unclosed}
 use Rattle.theory.specs.Validity.{inner_of}
 use Rattle.theory.proofs.Lists.{front-snoc}
 use Rattle.arcs.specs.Among.{among}
+use Rattle.arcs.proofs.EndsAlong.{last_get}
 use Rattle.arcs.specs.Table.{is_loop}
 use Rattle.lines.proofs.Dropping.{drop_next}
 use Rattle.chains.proofs.TablesAsMap.{answered, given, unclosed_rest}
@@ -71,11 +72,6 @@ inner_front y x (z ∷ s) = front-snoc z x s
 pub open_inside : (b : Bool) (c front inner : List Pos) (x y : Pos) → b ≡ false → c ≡ front ++ (x ∷ []) → front ≡ y ∷ inner → inner ≡ cond b (unclosed c) (inner_of c)
 open_inside b c front inner x y t e f =
     sym (ap (λ w. cond w (unclosed c) (inner_of c)) t ∙ ap inner_of (e ∙ ap (λ w. w ++ (x ∷ [])) f) ∙ inner_front y x inner)
-
--- the last of a list
-pub last_get : {V : Type 0} (x : V) (l : List V) → slice_get (x ∷ l) (length l) ≡ Some (last_of x l)
-last_get x [] = refl
-last_get x (y ∷ l) = last_get y l
 
 -- the ends of a list, as the code has them
 pub ends_told : (e : EndsHaveToBe) (sorted l : List Pos) (a b : Pos) → Some a ≡ slice_get l 0 → Some b ≡ slice_get l (length l - 1) →

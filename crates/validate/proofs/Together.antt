@@ -29,11 +29,11 @@ use Rattle.chains.specs.OfArcs.{table_as_map}
 use Rattle.arcs.specs.Table.{IsTableOf, free_at}
 use Rattle.validate.specs.Lists.{IsValidLine, IsValidRing}
 use Rattle.validate.specs.ArcEnds.{from_to, line_ends}
-use Rattle.validate.specs.Chaining.{ends_along}
+use Rattle.arcs.specs.Ends.{ends_along}
 use Rattle.validate.specs.Validity as law
 use Rattle.validate.specs.Validity.{AreListsOf, AreTurnedListsOf, AreValidLists, StitchAround}
 use Rattle.validate.proofs.NodedArcs.{is_table}
-use Rattle.validate.proofs.ChainedLists.{ends_run}
+use Rattle.arcs.proofs.EndsAlong.{ends_run}
 
 order : IsOrder position_cmp
 order = record { total = position_total; same = position_same }

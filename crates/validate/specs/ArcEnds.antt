@@ -6,7 +6,7 @@ use Rattle.theory.specs.ArcNumbers.{ArcRef}
 use Rattle.theory.specs.Geometry.{Geometry, IsLineOf}
 use Rattle.theory.specs.Lists.{EndOf, Has, last_of}
 use Rattle.theory.specs.Validity.{ThreeBegin}
-use Rattle.validate.specs.Chaining.{ends_along}
+use Rattle.arcs.specs.Ends.{ends_along}
 
 -- the first of two ends, and the last of two others, where there are such
 abbrev pub from_to : Option (Pos × Pos) → Option (Pos × Pos) → List Pos

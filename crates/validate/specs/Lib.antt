@@ -2,7 +2,6 @@ pub mod EndTests
 pub mod Noding
 pub mod FreeLoops
 pub mod Chaining
-pub mod UsedArcs
 pub mod RingStarts
 pub mod Lists
 pub mod ArcEnds

@@ -2,43 +2,34 @@
 ghost use Rattle.chains.specs.OfArcs.{table_as_map};
 ghost use Rattle.validate.specs.ArcEnds as spec;
 ghost use Rattle.validate.specs.ArcEnds.{EndsMeet, both_ends, line_ends};
-ghost use Rattle.validate.specs.Chaining as list;
 ghost use Rattle.std.specs.Prelude.{◌≡◌, ◌↔◌, ◌++◌, true, IfOk, OnOk};
 ghost use Rattle.theory.specs.Lists.{gathered};
 
-use crate::chaining::{ends_in, last_from};
+use crate::chaining::ends_along;
 use crate::end_tests::{EndsHaveToBe, each_ends};
+use crate::numbered_arcs::NumberedArcs;
+use arcs::ends::last_from;
 use chains::table::{ArcRef, ArcTable};
 use faults::OutOfMemory;
 use grid::pos::Pos;
-use lines::items::Items;
 use std::alloc::{AllocError, Global};
-
-fn ends_of(arcs: &[Items<Pos>], used: ArcRef) -> Option<(Pos, Pos)>
-    ensures { result ≡ list.ends_along arcs.now used }
-{
-    match arcs.get(used.arc) {
-        Some(arc) => ends_in(arc.as_slice(), used.reversed),
-        None => None,
-    }
-}
 
 /// Adds where a line begins and ends, by its list of used arcs.
 ///
 /// # Errors
 /// Where memory is refused.
-pub fn add_line_ends(
+pub fn add_line_ends<A: NumberedArcs>(
     ends: &mut Vec<Pos>,
-    arcs: &[Items<Pos>],
+    arcs: &A,
     refs: &[ArcRef],
 ) -> Result<(), OutOfMemory>
-    ensures { OnOk result (ends.new.items ≡ ends.old.items ++ line_ends arcs.now refs.now) }
+    ensures { OnOk result (ends.new.items ≡ ends.old.items ++ line_ends (A.arcs arcs.now) refs.now) }
 {
     let Some((first, others)) = refs.split_first() else {
         return Ok(());
     };
     let last = last_from(*first, others);
-    if let (Some((start, _)), Some((_, end))) = (ends_of(arcs, *first), ends_of(arcs, last)) {
+    if let (Some((start, _)), Some((_, end))) = (ends_along(arcs, *first), ends_along(arcs, last)) {
         ends.push(start)?;
         ends.push(end)?;
     }

@@ -1,42 +1,18 @@
 //! Where lists of used arcs begin and end, by the ends of the arcs alone.
+ghost use Rattle.arcs.specs.Ends as ends;
 ghost use Rattle.grid.specs.declared.pos.Pos.{Pos};
 ghost use Rattle.validate.specs.Chaining as spec;
 ghost use Rattle.std.specs.Prelude.{◌≡◌, IfNone, IfSome, []};
-ghost use Rattle.theory.specs.Lists.{last_of};
 ghost use Rattle.theory.specs.Validity.{Runs};
 
 use crate::numbered_arcs::NumberedArcs;
+use arcs::ends::ends_in;
 use chains::table::ArcRef;
 use grid::pos::Pos;
 
-/// The last of some values, or the one before them where there are none.
-pub fn last_from<T: Copy>(first: T, others: &[T]) -> T
-    ensures { result ≡ last_of first others.now }
-{
-    match others.last() {
-        Some(last) => *last,
-        None => first,
-    }
-}
-
-/// The first and the last vertex of an arc, in the direction in which it is used.
-pub(crate) fn ends_in(arc: &[Pos], reversed: bool) -> Option<(Pos, Pos)>
-    ensures { result ≡ spec.ends_in reversed arc.now }
-{
-    let Some((first, others)) = arc.split_first() else {
-        return None;
-    };
-    let last = last_from(*first, others);
-    if reversed {
-        Some((last, *first))
-    } else {
-        Some((*first, last))
-    }
-}
-
 /// The first and the last vertex along a used arc; `None` where no arc has its number.
 pub fn ends_along<A: NumberedArcs>(arcs: &A, used: ArcRef) -> Option<(Pos, Pos)>
-    ensures { result ≡ spec.ends_along (A.arcs arcs.now) used }
+    ensures { result ≡ ends.ends_along (A.arcs arcs.now) used }
 {
     match arcs.arc(used.arc) {
         Some(arc) => ends_in(arc, used.reversed),
@@ -46,7 +22,7 @@ pub fn ends_along<A: NumberedArcs>(arcs: &A, used: ArcRef) -> Option<(Pos, Pos)>
 
 /// Where a used arc leads from a vertex; `None` where it doesn't begin there.
 fn next_from<A: NumberedArcs>(arcs: &A, here: Pos, used: ArcRef) -> Option<Pos>
-    ensures { result ≡ spec.next_from here (spec.ends_along (A.arcs arcs.now) used) }
+    ensures { result ≡ spec.next_from here (ends.ends_along (A.arcs arcs.now) used) }
 {
     match ends_along(arcs, used) {
         Some((first, last)) => { if first == here { Some(last) } else { None } }

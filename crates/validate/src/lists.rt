@@ -3,7 +3,7 @@ ghost use Rattle.chains.specs.OfArcs.{table_as_map};
 ghost use Rattle.lines.specs.Turned.{position_cmp};
 ghost use Rattle.validate.specs.Lists as spec;
 ghost use Rattle.validate.specs.Lists.{IsValidLine, IsValidRing};
-ghost use Rattle.validate.specs.UsedArcs.{marks_set};
+ghost use Rattle.arcs.specs.ArcMarks.{marks_set};
 ghost use Rattle.validate.specs.ArcEnds.{line_ends};
 ghost use Rattle.std.specs.Prelude.{◌≡◌, ◌↔◌, [], ◌∷◌, length, true, IfSome, IsSome};
 
@@ -27,7 +27,7 @@ fn none_free(table: &ArcTable, refs: &[ArcRef]) -> bool
 /// Where a line begins and ends whose list of used arcs is valid; `None` exactly where it isn't. It
 /// is valid where it is not empty, each arc begins where the one before it ends, none occurs in it twice,
 /// and none is a free loop. Its arcs are added to those that are used.
-#[tactic(auto, using(crate::proofs::Marking::marks_set_long))]
+#[tactic(auto, using(arcs::proofs::SetMarks::marks_set_long))]
 pub fn line_run(table: &ArcTable, used: &mut ArcsUsed, refs: &[ArcRef]) -> Option<(Pos, Pos)>
     requires { length used.old ≡ length table.now.arcs }
     ensures stands { IsSome result ↔ IsValidLine table.now.arcs (table_as_map table.now) refs.now }
@@ -60,7 +60,7 @@ fn goes_round(table: &ArcTable, refs: &[ArcRef]) -> bool
 /// Whether a list of used arcs is valid as a ring's: each arc begins where the one before it ends, and
 /// the first where the last does, none occurs in it twice, and none starts, by its first two vertices,
 /// before the first. Its arcs are added to those that are used.
-#[tactic(auto, using(crate::proofs::Marking::marks_set_long))]
+#[tactic(auto, using(arcs::proofs::SetMarks::marks_set_long))]
 pub fn is_valid_ring(table: &ArcTable, used: &mut ArcsUsed, refs: &[ArcRef]) -> bool
     requires { length used.old ≡ length table.now.arcs }
     ensures stands { (result ≡ true) ↔ IsValidRing position_cmp table.now.arcs refs.now }

@@ -11,9 +11,9 @@ ghost use Rattle.theory.specs.Arcs.{AreArcsOf};
 ghost use Rattle.theory.specs.Geometry.{Geometry, IsSound};
 ghost use Rattle.theory.specs.Lists.{gathered};
 
-use crate::chaining::last_from;
 use crate::end_tests::is_among;
 use crate::noding::is_closed;
+use arcs::ends::last_from;
 use faults::OutOfMemory;
 use grid::pos::Pos;
 use lines::items::Items;

@@ -6,8 +6,9 @@ ghost use Rattle.std.specs.Prelude.{◌≡◌, List, slice_get};
 use crate::accept::text_arcs::TextArcs;
 use chains::table::ArcTable;
 use grid::pos::Pos;
+use lines::items::Items;
 
-/// Arcs by their numbers: those of a table, or of a text.
+/// Arcs by their numbers: those of a list, of a table, or of a text.
 pub trait NumberedArcs {
     // The arcs, by their numbers.
     ghost arcs: { Self → List (List Pos) };
@@ -15,6 +16,17 @@ pub trait NumberedArcs {
     /// The arc of a number, `None` exactly past the last arc.
     fn arc(&self, number: usize) -> Option<&[Pos]>
         ensures { option_map (λ a. a.now) result ≡ slice_get (arcs self.now) number };
+}
+
+impl NumberedArcs for Vec<Items<Pos>> {
+    ghost arcs = { λ v. v.items };
+
+    fn arc(&self, number: usize) -> Option<&[Pos]> {
+        match self.get(number) {
+            Some(arc) => Some(arc.as_slice()),
+            None => None,
+        }
+    }
 }
 
 impl NumberedArcs for ArcTable {

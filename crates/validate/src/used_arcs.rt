@@ -1,61 +1,19 @@
 //! Which arcs lists use.
-ghost use Rattle.validate.specs.UsedArcs.{each_unmarked, marks_set};
+ghost use Rattle.arcs.specs.ArcMarks.{each_unmarked, marks_set};
 ghost use Rattle.std.specs.List.{list_all};
-ghost use Rattle.std.specs.Prelude.{◌≡◌, IfOk, false, true, get_or, length, not, replicate, set};
+ghost use Rattle.std.specs.Prelude.{◌≡◌, IfOk, false, length, replicate, true};
 
+use arcs::ArcMarks;
 use chains::table::ArcRef;
 use faults::OutOfMemory;
 use std::alloc::Global;
 use std::marker::Model;
 
-/// Sets the mark of an arc, and answers whether it has one that wasn't set.
-fn mark(marks: &mut [bool], arc: usize) -> bool
-    ensures unset { result ≡ not (get_or marks.old arc true) }
-    ensures after { marks.new ≡ set marks.old arc true }
-{
-    if arc >= marks.len() {
-        return false;
-    }
-    let unset = !marks[arc];
-    marks[arc] = true;
-    unset
-}
-
-/// Sets the marks of the arcs of a list, and answers whether each has one that wasn't set.
-fn mark_each(marks: &mut [bool], refs: &[ArcRef]) -> bool
-    ensures unset { result ≡ each_unmarked marks.old refs.now }
-    ensures after { marks.new ≡ marks_set true marks.old refs.now }
-{
-    let mut unset = true;
-    for used in refs {
-        if !mark(marks, used.arc) {
-            unset = false;
-        }
-    }
-    unset
-}
-
-fn put(marks: &mut [bool], arc: usize, value: bool)
-    ensures { marks.new ≡ set marks.old arc value }
-{
-    if arc < marks.len() {
-        marks[arc] = value;
-    }
-}
-
-fn put_each(marks: &mut [bool], refs: &[ArcRef], value: bool)
-    ensures { marks.new ≡ marks_set value marks.old refs.now }
-{
-    for used in refs {
-        put(marks, used.arc, value);
-    }
-}
-
 /// Which arcs are used by the lists that were added. Contracts see it as a mark for each arc.
 #[derive(Drop)]
 pub struct ArcsUsed {
-    used: Vec<bool>,
-    here: Vec<bool>,
+    used: ArcMarks,
+    here: ArcMarks,
 }
 
 impl Model for ArcsUsed {
@@ -63,10 +21,10 @@ impl Model for ArcsUsed {
 
     ghost Value = { List Bool };
 
-    ghost view = { λ a. a.used.items };
+    ghost view = { λ a. a.used };
 
     // no list is on its way
-    ghost invariant = { λ a. a.here.items ≡ replicate (length a.used.items) false };
+    ghost invariant = { λ a. a.here ≡ replicate (length a.used) false };
 }
 
 impl ArcsUsed {
@@ -77,8 +35,8 @@ impl ArcsUsed {
     pub fn none(alloc: Global, count: usize) -> Result<ArcsUsed, OutOfMemory>
         ensures { IfOk result (λ u. u ≡ replicate count false) }
     {
-        let used = vec![in alloc; false; count]?;
-        let here = vec![in alloc; false; count]?;
+        let used = ArcMarks::none(alloc, count)?;
+        let here = ArcMarks::none(alloc, count)?;
         Ok(ArcsUsed { used, here })
     }
 
@@ -87,9 +45,9 @@ impl ArcsUsed {
         ensures once { result ≡ each_unmarked (replicate (length self.old) false) refs.now }
         ensures used { self.new ≡ marks_set true self.old refs.now }
     {
-        let once = mark_each(&mut self.here, refs);
-        put_each(&mut self.here, refs, false);
-        put_each(&mut self.used, refs, true);
+        self.used.set_each(refs);
+        let once = self.here.set_each(refs);
+        self.here.clear_each(refs);
         once
     }
 
@@ -97,7 +55,7 @@ impl ArcsUsed {
     pub fn all(&self) -> bool
         ensures { result ≡ list_all (λ b. b) self.now }
     {
-        for used in &self.used {
+        for used in self.used.as_slice() {
             if !*used {
                 return false;
             }

@@ -5,7 +5,7 @@ use Rattle.grid.specs.declared.pos.Pos.{Pos}
 use Rattle.lines.specs.Reading.{line_fault, ring_fault}
 use Rattle.lines.specs.Turned.{position_cmp}
 use Rattle.lines.specs.declared.shape_fault.ShapeFault.{ShapeFault}
-use Rattle.validate.specs.Chaining.{ends_along}
+use Rattle.arcs.specs.Ends.{ends_along}
 use Rattle.theory.specs.ArcNumbers.{ArcRef, StitchTo}
 use Rattle.theory.specs.Lists.{Distinct, Twice, gathered}
 use Rattle.normalize.specs.ArcLists.Labels.{label_at}

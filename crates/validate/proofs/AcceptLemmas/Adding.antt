@@ -12,10 +12,10 @@ use Rattle.arcs.specs.Arcs.{Arcs}
 use Rattle.chains.specs.OfArcs.{table_as_map}
 use Rattle.chains.proofs.Layers.{gathered-append}
 use Rattle.validate.specs.Lists.{IsValidLine, IsValidRing}
-use Rattle.validate.specs.UsedArcs.{marks_set}
+use Rattle.arcs.specs.ArcMarks.{marks_set}
 use Rattle.validate.specs.ArcEnds.{EndsMeet, line_ends}
 use Rattle.validate.specs.Validity.{AreValidLists}
-use Rattle.validate.proofs.Marking.{marks_set_long, other_mark, set_mark, uses_or}
+use Rattle.arcs.proofs.SetMarks.{marks_set_long, other_mark, set_mark, uses_or}
 use Rattle.validate.specs.Accept.Added.{AreAdded, EachIsValid, IsUsed}
 use Rattle.validate.specs.declared.accept.lists.ListsSeen.{ListsSeen}
 

@@ -9,15 +9,14 @@ ghost use Rattle.topo.specs.BodyLists.{body_lines};
 ghost use Rattle.theory.specs.Geometry.{Geometry};
 ghost use Rattle.theory.specs.Lists.{gathered};
 
-use crate::add_line_ends;
+use crate::{NumberedArcs, add_line_ends};
 use faults::OutOfMemory;
 use grid::pos::Pos;
-use lines::items::Items;
 use std::alloc::Global;
 use topo::{Body, Geom, Layer};
 
-fn add_body(ends: &mut Vec<Pos>, arcs: &[Items<Pos>], body: &Body) -> Result<(), OutOfMemory>
-    ensures { OnOk result (ends.new.items ≡ ends.old.items ++ gathered (spec.line_ends arcs.now) (body_lines body.now)) }
+fn add_body<A: NumberedArcs>(ends: &mut Vec<Pos>, arcs: &A, body: &Body) -> Result<(), OutOfMemory>
+    ensures { OnOk result (ends.new.items ≡ ends.old.items ++ gathered (spec.line_ends (A.arcs arcs.now)) (body_lines body.now)) }
 {
     for refs in body.lines() {
         add_line_ends(ends, arcs, refs.as_slice())?;
@@ -25,12 +24,12 @@ fn add_body(ends: &mut Vec<Pos>, arcs: &[Items<Pos>], body: &Body) -> Result<(),
     Ok(())
 }
 
-fn add_geometries(
+fn add_geometries<A: NumberedArcs>(
     ends: &mut Vec<Pos>,
-    arcs: &[Items<Pos>],
+    arcs: &A,
     geometries: &[Geom],
 ) -> Result<(), OutOfMemory>
-    ensures { OnOk result (ends.new.items ≡ ends.old.items ++ gathered (spec.line_ends arcs.now) (lines_of geometries.now)) }
+    ensures { OnOk result (ends.new.items ≡ ends.old.items ++ gathered (spec.line_ends (A.arcs arcs.now)) (lines_of geometries.now)) }
 {
     for geometry in geometries {
         add_body(ends, arcs, &geometry.body)?;
@@ -44,13 +43,13 @@ fn add_geometries(
 ///
 /// # Errors
 /// Where memory is refused.
-pub fn line_ends(
+pub fn line_ends<A: NumberedArcs>(
     alloc: Global,
-    arcs: &[Items<Pos>],
+    arcs: &A,
     layers: &[Layer],
 ) -> Result<Vec<Pos>, OutOfMemory>
-    ensures ends { IfOk result (λ v. v.items ≡ gathered (spec.line_ends arcs.now) (layers_lines layers.now)) }
-    ensures of_map { IfOk result (λ v. (g : Geometry Pos) → LinesStitch arcs.now (layers_lines layers.now) g → AreLineEnds v.items g) }
+    ensures ends { IfOk result (λ v. v.items ≡ gathered (spec.line_ends (A.arcs arcs.now)) (layers_lines layers.now)) }
+    ensures of_map { IfOk result (λ v. (g : Geometry Pos) → LinesStitch (A.arcs arcs.now) (layers_lines layers.now) g → AreLineEnds v.items g) }
 {
     let mut ends = Vec::new(alloc);
     for layer in layers {

@@ -5,5 +5,5 @@ use Rattle.split_heal.proofs.walking.Walker.add_open_runs.Given as goal
 
 abbrev pub invariant-loop-arc : goal.invariant-loop-arc
 invariant-loop-arc l =
-    (p : ArePaired l.fn.kept (partner_in l.fn.meeting)) → AreWalked l.fn.kept (partner_in l.fn.meeting) l.fn.self.left.items l.fn.self.runs.items →
-    Begun l.fn.kept (partner_in l.fn.meeting) p l.arc l.self.left.items l.self.runs.items
+    (p : ArePaired l.fn.kept (partner_in l.fn.meeting)) → AreWalked l.fn.kept (partner_in l.fn.meeting) l.fn.self.left l.fn.self.runs.items →
+    Begun l.fn.kept (partner_in l.fn.meeting) p l.arc l.self.left l.self.runs.items

@@ -5,6 +5,6 @@ use Rattle.split_heal.proofs.walking.Walker.add_round_runs.Given as goal
 
 abbrev pub invariant-loop-arc : goal.invariant-loop-arc
 invariant-loop-arc l =
-    (p : ArePaired l.fn.kept (partner_in l.fn.meeting)) → AreWalked l.fn.kept (partner_in l.fn.meeting) l.fn.self.left.items l.fn.self.runs.items →
-    EndsGone l.fn.kept (partner_in l.fn.meeting) l.fn.self.left.items →
-    Rounded l.fn.kept (partner_in l.fn.meeting) p l.arc l.self.left.items l.self.runs.items
+    (p : ArePaired l.fn.kept (partner_in l.fn.meeting)) → AreWalked l.fn.kept (partner_in l.fn.meeting) l.fn.self.left l.fn.self.runs.items →
+    EndsGone l.fn.kept (partner_in l.fn.meeting) l.fn.self.left →
+    Rounded l.fn.kept (partner_in l.fn.meeting) p l.arc l.self.left l.self.runs.items

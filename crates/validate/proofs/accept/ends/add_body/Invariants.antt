@@ -5,5 +5,5 @@ use Rattle.validate.specs.ArcEnds.{line_ends}
 use Rattle.validate.proofs.accept.ends.add_body.Given as goal
 
 abbrev pub invariant-loop-refs : goal.invariant-loop-refs
-invariant-loop-refs l =
-    l.ends.items ++ gathered (line_ends l.fn.arcs) l.refs-iterator ≡ l.fn.ends.items ++ gathered (line_ends l.fn.arcs) (body_lines l.fn.body)
+invariant-loop-refs g l =
+    l.ends.items ++ gathered (line_ends (g.A.NumberedArcs.arcs l.fn.arcs)) l.refs-iterator ≡ l.fn.ends.items ++ gathered (line_ends (g.A.NumberedArcs.arcs l.fn.arcs)) (body_lines l.fn.body)

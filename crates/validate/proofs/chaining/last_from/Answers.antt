@@ -1,5 +1,0 @@
-use Rattle.validate.proofs.ChainedLists.{last_told}
-use Rattle.validate.proofs.chaining.last_from.Goals as goal
-
-pub returns-in-Some : goal.returns-in-Some
-returns-in-Some g c = last_told c.args.first c.in-Some.last.now c.args.others.now c.in-Some.ensures.value
