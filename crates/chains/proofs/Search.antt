@@ -12,6 +12,7 @@ use Rattle.arcs.specs.Among.{Tells, among}
 use Rattle.chains.proofs.Among.{told_among}
 use Rattle.lines.proofs.SortedLists.{Contains-from_has, has_from_contains}
 use Rattle.lines.specs.Positions.{position_total, position_same}
+use Rattle.arcs.proofs.Looking.{split_at}
 
 pub found : (xs : List Pos) (x : Pos) (r : Result ℕ ℕ) (b : Bool) → b ≡ is_ok r → IsSearchInRange r (length xs) →
     IsBinarySearchResult (λ y. position_cmp y x) xs r → IsSorted position_cmp xs → Tells b (Has x xs)

@@ -5,6 +5,7 @@ use Rattle.grid.specs.declared.pos.Pos.{Pos}
 use Rattle.arcs.specs.Among.{among}
 use Rattle.chains.specs.Starts.{start_place}
 use Rattle.arcs.specs.declared.piece.Piece.{Piece}
+use Rattle.arcs.specs.Pieces.{piece_along}
 
 -- whether the list begins with no stop
 abbrev pub begins_free : (Pos → Bool) → List Pos → Bool

@@ -13,6 +13,7 @@ use Rattle.chains.specs.Visits.{inner_of, around_of}
 use Rattle.arcs.specs.declared.arcs_box.Extent.{Extent}
 use Rattle.chains.specs.declared.vertex_filter.VertexFilter.{VertexFilter}
 use Rattle.chains.specs.declared.visits.Visit.{Visit}
+use Rattle.arcs.specs.Placing.{whole}
 
 -- whether a position may be a vertex of both tables
 abbrev pub may_hold : VertexFilter → Pos → Bool
