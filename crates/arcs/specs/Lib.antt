@@ -11,4 +11,3 @@ pub mod ArcMarks
 pub mod Ends
 pub mod Steps
 pub mod Pieces
-pub mod Steps
