@@ -18,6 +18,7 @@ pub mod Needed
 pub mod Each
 pub mod Features
 pub mod JudgedLists
+pub mod BodyLists
 pub mod Entries
 pub mod ValidTextsMeanAMap
 pub mod AnyOrder

@@ -63,15 +63,12 @@ impl Bounded for Body {
     ghost within = { BodyWithin };
 
     fn is_within(&self, bounds: &Bounds) -> bool {
-        match self {
-            Body::Null => true,
-            Body::Point(p) => p.is_within(bounds),
-            Body::MultiPoint(ps) => ps.is_within(bounds),
-            Body::Line(us) => us.is_within(bounds),
-            Body::MultiLine(ls) => ls.is_within(bounds),
-            Body::Polygon(rs) => rs.is_within(bounds),
-            Body::MultiPolygon(ps) => ps.is_within(bounds),
+        for used in self.parts() {
+            if !used.is_within(bounds) {
+                return false;
+            }
         }
+        each_within(bounds, self.points())
     }
 }
 

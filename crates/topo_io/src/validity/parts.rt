@@ -13,6 +13,7 @@ use faults::OutOfMemory;
 use faults::fault::FaultKind;
 use lines::items::Items;
 use normalize::arc_lists::ArcLists;
+use shapes::form_parts::FormParts;
 use std::alloc::Global;
 use topo::{Body, Geom, Layer};
 use validate::accept::TextArcs;
@@ -38,9 +39,9 @@ fn all_stitch(
     alloc: Global,
     lists: &ArcLists,
     kind: OutlineType,
-    refs: &[Items<ArcRef>],
+    refs: FormParts<'_, Items<ArcRef>>,
 ) -> Result<bool, OutOfMemory>
-    ensures { IfOk result (IsJudged (AllByRecursion (λ used. used_faults lists.now.arcs.now kind used ≡ []) refs.now)) }
+    ensures { IfOk result (IsJudged (AllByRecursion (λ used. used_faults lists.now.arcs.now kind used ≡ []) refs.entry)) }
 {
     for used in refs {
         if !list_stitches(alloc, lists, kind, used.as_slice())? {
@@ -50,31 +51,18 @@ fn all_stitch(
     Ok(true)
 }
 
-fn polygons_stitch(
-    alloc: Global,
-    lists: &ArcLists,
-    polygons: &[Items<Items<ArcRef>>],
-) -> Result<bool, OutOfMemory>
-    ensures { IfOk result (IsJudged (AllByRecursion (AllByRecursion (λ used. used_faults lists.now.arcs.now OutlineType.Ring used ≡ [])) polygons.now)) }
-{
-    for refs in polygons {
-        if !all_stitch(alloc, lists, OutlineType::Ring, refs.as_slice())? {
-            return Ok(false);
-        }
-    }
-    Ok(true)
-}
-
 fn body_stitches(alloc: Global, lists: &ArcLists, body: &Body) -> Result<bool, OutOfMemory>
     ensures { IfOk result (IsJudged (BodyStitches lists.now.arcs.now (body_of body.now))) }
 {
-    match body {
-        Body::Null | Body::Point(_) | Body::MultiPoint(_) => Ok(true),
-        Body::Line(used) => list_stitches(alloc, lists, OutlineType::Line, used.as_slice()),
-        Body::MultiLine(refs) => all_stitch(alloc, lists, OutlineType::Line, refs.as_slice()),
-        Body::Polygon(refs) => all_stitch(alloc, lists, OutlineType::Ring, refs.as_slice()),
-        Body::MultiPolygon(polygons) => polygons_stitch(alloc, lists, polygons.as_slice()),
+    if !all_stitch(alloc, lists, OutlineType::Line, body.lines())? {
+        return Ok(false);
     }
+    Ok(all_stitch(
+        alloc,
+        lists,
+        OutlineType::Ring,
+        body.rings(),
+    )?)
 }
 
 fn geometries_stitch(
