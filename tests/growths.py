@@ -47,7 +47,6 @@ EXCEPTIONS = {
     "ArcTable::with_extent": JUDGED + "split_heal::recut",
     "Become::make": "is what Form::try_map calls",
     "JoinMany::join_many": JUDGED + "merging::merge_all_by",
-    "merging::join_all": JUDGED + "merging::merge_all",
     "Extent::around_all": "is what split_heal::recut_all calls",
     "Extent::around": "is what split_heal::recut calls",
     "Extent::has": "is what split_heal::recut calls",

@@ -1,5 +1,5 @@
 -- Plans' leaves, and unions over them.
-use Rattle.std.proofs.Common.{◌≡◌, ℕ, ℤ, ◌<◌, Bool, true, false, cond, List, [], ◌∷◌, ◌++◌, length, get_or, Some, None, refl, sym, ◌∙◌, ap, arith}
+use Rattle.std.proofs.Common.{◌≡◌, ◌↔◌, ℕ, ℤ, pos, ◌<◌, Bool, true, false, cond, List, [], ◌∷◌, ◌++◌, length, get_or, Option, Some, None, is_some, refl, sym, ◌∙◌, ap, arith}
 use Rattle.std.specs.Prelude.{All, map as map_list, nat_lt, slice_get, unwrap_or, option_map}
 use Rattle.std.proofs.lemmas.Option.{slice_get-map, slice_get-get_or}
 use Rattle.std.proofs.lemmas.List.{map-append}
@@ -13,12 +13,13 @@ use Rattle.merging.specs.Meaning.{same_grid, same_scaling}
 use Rattle.merging.specs.declared.plan.Plan.{Plan}
 use Rattle.merging.specs.declared.plan.Plan.TheVariants.{Leaf, Node'}
 use Rattle.merging.specs.Leaves.{HasIndexes}
-use Rattle.merging.specs.Plans.{union_all, union_at, off_grid, first_other}
+use Rattle.merging.specs.Plans.{AreOnOneGrid, union_all, union_at, off_grid, first_other}
 use Rattle.std.specs.Prelude.{not, ◌&&◌}
 use Rattle.std.specs.List.{position_or_len}
-use Rattle.std.proofs.lemmas.List.Sums.{fails_before_first}
+use Rattle.std.proofs.lemmas.List.Sums.{fails_before_first, position_or_len_is}
+use Rattle.std.proofs.lemmas.List.Elements.{All-head, All-nil}
 use Rattle.std.proofs.Common.{◌≤◌}
-use Rattle.std.proofs.lemmas.Bool.{ltb-false}
+use Rattle.std.proofs.lemmas.Bool.{le-ltb, ltb-false}
 use Rattle.std.proofs.lemmas.Bool.Decides.{Decides-int_eq}
 use Rattle.merging.specs.Plans.{other_than}
 
@@ -91,3 +92,26 @@ no_first (s ∷ ss) e = cc
 
 pub one_grid : {S : Type 0} (f : S → Transform) (ss : List S) (s : S) → Some s ≡ slice_get ss 0 → None ≡ first_other f ss → All (λ t. f t ≡ f s) ss
 one_grid f ss s e n = off_grid_none f (f s) ss (ap (λ o. other_than f o ss) e ∙ sym n)
+
+module _ {S : Type 0} (f : S → Transform) where
+  none_is : (o : Option ℕ) → is_some o ≡ false → None ≡ o
+  none_is None e = refl
+  none_is (Some i) e = cc
+
+  grid_of_all : (ss : List S) → None ≡ first_other f ss → AreOnOneGrid f ss
+  grid_of_all [] n = (record { x = record { scale = pos 0; translate = pos 0 }; y = record { scale = pos 0; translate = pos 0 } }, All-nil _)
+  grid_of_all (s ∷ ss) n = (f s, one_grid f (s ∷ ss) s refl n)
+
+  none_off : (ss : List S) → AreOnOneGrid f ss → is_some (first_other f ss) ≡ false
+  none_off [] h = refl
+  none_off (s ∷ ss) h =
+      let n = length (s ∷ ss) in
+      let first : f s ≡ h.0 = All-head (λ t. f t ≡ h.0) s ss h.1 in
+      let past : position_or_len (λ t. not (same_grid (f t) (f s))) (s ∷ ss) ≡ n =
+      position_or_len_is (λ t. not (same_grid (f t) (f s))) (s ∷ ss) n s (omega arith) (λ k lt. ap not (same_grid_same (f (get_or (s ∷ ss) k s)) (f s) (h.1 k s lt ∙ sym first)))
+      (λ lt. absurd (omega (arith, lt))) in
+      ap (λ i. is_some (cond (nat_lt i n) (Some i) None)) past ∙ ap (λ b. is_some (cond b (Some n) None)) (le-ltb n n (omega arith))
+
+  -- there is no item on another grid than the first one's where all are on one grid
+  pub on_one_grid : (ss : List S) (b : Bool) → is_some (first_other f ss) ≡ not b → (b ≡ true) ↔ AreOnOneGrid f ss
+  on_one_grid ss b e = (λ is. grid_of_all ss (none_is (first_other f ss) (e ∙ ap not is)), λ h. not_false b (sym e ∙ none_off ss h))

@@ -1,11 +1,12 @@
 -- What is left to do of a plan that is run over a stack of shards.
-use Rattle.std.proofs.Common.{◌≡◌, ℕ, ◌*◌, ◌<◌, ◌≤◌, List, [], ◌∷◌, ◌++◌, Bor, length, refl, sym, ◌∙◌, ap, subst, arith}
-use Rattle.std.specs.Prelude.{map as map_list, reverse, All, Some, Result, Err, ◌↔◌}
+use Rattle.std.proofs.Common.{◌≡◌, ℕ, ◌*◌, ◌<◌, ◌≤◌, Bool, true, false, List, [], ◌∷◌, ◌++◌, Bor, length, refl, sym, ◌∙◌, ap, subst, arith}
+use Rattle.std.specs.Prelude.{map as map_list, reverse, All, IsErrOf, IsOkUnless, Some, Result, Ok, Err, ◌↔◌}
 use Rattle.std.proofs.lemmas.List.{reverse-append, length-reverse}
 use Rattle.std.proofs.lemmas.List.Elements.{All-pop}
 use Rattle.grid.specs.Place.{Transform}
 use Rattle.shapes.specs.Maps.{Layers}
 use Rattle.shapes.specs.Union.{union}
+use Rattle.merging.specs.Plans.{AreOnOneGrid}
 use Rattle.merging.specs.declared.fault.JoinFault.{JoinFault}
 use Rattle.merging.specs.declared.fault.JoinFault.TheVariants.{OtherGrid, OutOfMemory}
 use Rattle.merging.specs.declared.plan.Plan.{Plan}
@@ -107,3 +108,22 @@ all_but_two P made first second a b h e f =
 pub only_memory : {S : Type 0} (g h : Transform) (f : JoinFault) (r : Result S JoinFault) → r ≡ Err f → ((r ≡ Err OtherGrid) ↔ ¬ (g ≡ h)) → g ≡ h → f ≡ OutOfMemory
 only_memory g h OtherGrid r is told same = absurd (told.0 is same)
 only_memory g h OutOfMemory r is told same = refl
+
+no_both : true ≡ false → ⊥
+no_both e = cc
+
+memory_is_no_grid : {T : Type 0} (r : Result T JoinFault) → IsOkUnless r OutOfMemory → IsErrOf r OtherGrid → ⊥
+memory_is_no_grid (Ok s) w e = cc
+memory_is_no_grid (Err OtherGrid) w e = cc
+memory_is_no_grid (Err OutOfMemory) w e = cc
+
+module _ {S T : Type 0} (f : S → Transform) (ss all : List S) (b : Bool) (told : (b ≡ true) ↔ AreOnOneGrid f ss) (same : ss ≡ all) where
+  -- shards that are not on one grid are refused for it
+  pub refused_off_grid : b ≡ false → IsErrOf {T = T} (Err OtherGrid) OtherGrid ↔ ¬ AreOnOneGrid f all
+  refused_off_grid off = (λ e one. no_both (sym (told.1 (subst (AreOnOneGrid f) (sym same) one)) ∙ off), λ n. refl)
+
+  -- shards on one grid are refused for want of memory alone
+  pub refused_for_memory : b ≡ true → (r : Result T JoinFault) → ((g : Transform) → All (λ s. f s ≡ g) all → IsOkUnless r OutOfMemory) → IsErrOf r OtherGrid ↔ ¬ AreOnOneGrid f all
+  refused_for_memory on r memory =
+      let one = subst (AreOnOneGrid f) same (told.0 on) in
+      (λ e. absurd (memory_is_no_grid r (memory one.0 one.1) e), λ n. absurd (n one))

@@ -1,5 +1,5 @@
 -- What plans mean.
-use Rattle.std.specs.Prelude.{ℕ, List, [], ◌∷◌, Option, Some, None, not, length, position, map as map_list, slice_get, unwrap_or, option_map}
+use Rattle.std.specs.Prelude.{◌≡◌, ℕ, All, List, [], ◌∷◌, Option, Some, None, not, length, position, map as map_list, slice_get, unwrap_or, option_map}
 use Rattle.std.specs.Option.{option_or}
 use Rattle.std.specs.FinMap as map
 use Rattle.grid.specs.Place.{Transform}
@@ -9,6 +9,10 @@ use Rattle.merging.specs.Meaning.{same_grid}
 use Rattle.merging.specs.Leaves.{first_outside}
 use Rattle.merging.specs.declared.fault.PlanFault.{PlanFault}
 use Rattle.merging.specs.declared.fault.PlanFault.TheVariants.{BadPlan, OtherGrid}
+
+-- all items are on one grid
+abbrev pub AreOnOneGrid : {S : Type 0} → (S → Transform) → List S → Type 0
+AreOnOneGrid grid ss = (g : Transform) × All (λ s. grid s ≡ g) ss
 
 -- the index of the first item that isn't on the grid
 abbrev pub off_grid : {S : Type 0} → (S → Transform) → Transform → List S → Option ℕ

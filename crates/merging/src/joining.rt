@@ -31,10 +31,7 @@ fn join_pairs<S: Shard>(alloc: Global, shards: Vec<S>) -> Result<Vec<S>, JoinFau
 
 /// The join of all shards, by halves, along a Z-order curve: a round joins neighbours, until one is left. Each
 /// shard is passed to the join that takes it.
-///
-/// # Errors
-/// `OtherGrid` only where grids differ; `OutOfMemory`.
-pub fn join_all<S: Shard>(alloc: Global, shards: Vec<S>) -> Result<S, JoinFault>
+pub(crate) fn join_all<S: Shard>(alloc: Global, shards: Vec<S>) -> Result<S, JoinFault>
     requires some { 0 < length shards.items }
     ensures union { IfOk result (λ s. S.map_of s ≡ union_all (map S.map_of shards.items)) }
     ensures grid { (g : Transform) → All (λ s. S.grid_of s ≡ g) shards.items → IfOk result (λ s. S.grid_of s ≡ g) }

@@ -4,7 +4,7 @@
 
 pub mod fault;
 pub mod join_many;
-pub mod joining;
+mod joining;
 pub mod laws;
 pub mod merge;
 pub mod plan;
@@ -13,7 +13,6 @@ mod z_order;
 
 pub use fault::{JoinFault, MergeFault, PlanFault};
 pub use join_many::{ByHalves, JoinMany};
-pub use joining::join_all;
 pub use merge::{merge_all, merge_all_by, merge_as, merge_as_by};
-pub use plan::{Plan, first_bad_leaf, named_indexes, run_plan};
+pub use plan::{Plan, are_on_one_grid, first_bad_leaf, named_indexes, run_plan};
 pub use shard::Shard;

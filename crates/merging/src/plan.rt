@@ -7,7 +7,7 @@ pub mod naming;
 pub mod running;
 
 pub use naming::named_indexes;
-pub use running::run_plan;
+pub use running::{are_on_one_grid, run_plan};
 use std::alloc::Global;
 use std::mem;
 

@@ -1,11 +1,9 @@
 -- The parts of many topologies: their layers by the arcs of one table, merged two by two, are the parts of the union's topology.
-use Rattle.std.proofs.Common.{◌≡◌, ℕ, suc, ◌+◌, true, ◌&&◌, List, [], ◌∷◌, ◌++◌, append-nil, append_assoc, length, inl, inr, Some, slice_get, refl, sym, ap, ◌∙◌, subst, arith}
-use Rattle.std.specs.Prelude.{map as map_list, All}
-use Rattle.std.proofs.lemmas.List.Elements.{All-head, All-tail}
+use Rattle.std.proofs.Common.{◌≡◌, ℕ, suc, ◌+◌, List, [], ◌∷◌, ◌++◌, append-nil, append_assoc, length, inl, inr, Some, slice_get, refl, sym, ap, ◌∙◌, subst, arith}
+use Rattle.std.specs.Prelude.{map as map_list}
 use Rattle.std.specs.FinMap as map
 use Rattle.std.specs.Cmp.Lexicographic.{slice_cmp}
 use Rattle.std.specs.Ordering.{nat_cmp}
-use Rattle.grid.specs.Place.{Transform}
 use Rattle.grid.specs.declared.pos.Pos.{Pos}
 use Rattle.lines.specs.Turned.{position_cmp}
 use Rattle.shapes.specs.Maps.{Features, Layers}
@@ -23,7 +21,7 @@ use Rattle.theory.specs.Topology.{IsGeometryOf, IsLayerOf, forms_of, lines_in, r
 use Rattle.theory.proofs.ListsOfLists.{Has-map, map_has}
 use Rattle.merging.specs.Laws.{union_associates, union_commutes, union_empty}
 use Rattle.merging.specs.Plans.{union_all}
-use Rattle.merging.proofs.PlanLemmas.{same_grid_same, union_all-append}
+use Rattle.merging.proofs.PlanLemmas.{union_all-append}
 use Rattle.topo.proofs.GeometryOrderLemmas.NodedTables.{table_noded}
 use Rattle.topo.specs.GeometryOrder.Noded.{AreNoded}
 use Rattle.topo.specs.LayerLaws.CutLayers.{layer_recut, layers_merged}
@@ -38,8 +36,7 @@ use Rattle.topo.specs.GeometryOrder.{LayersHaveFeatures}
 use Rattle.topo.specs.OfMap.{ArePartsOf, IsOf, item_of, layer_of}
 use Rattle.topo.specs.Parts.{LayerParts, TopologyParts}
 use Rattle.topo.proofs.Sound.{are_sound}
-use Rattle.refine.specs.ManyLayers.{AreLayersOf, ArePartsOfAll, are_on, layers_recut_from}
-use Rattle.refine.specs.OnGrid.{MapOnGrid}
+use Rattle.refine.specs.ManyLayers.{AreLayersOf, ArePartsOfAll, layers_recut_from}
 
 -- what stands side by side in mapped lists
 mapped_pairs : {A B C D : Type 0} (R : C → D → Type 0) (f : A → C) (h : B → D) (xs : List A) (ys : List B) → Pairwise (λ x y. R (f x) (h y)) xs ys → Pairwise R (map_list f xs) (map_list h ys)
@@ -276,9 +273,3 @@ pub parts_done : (all left : List Layers) (tables : List Arcs) (lists : List (Li
 parts_done all left tables lists before e =
     subst (λ w. ArePartsOfAll all w lists) (append-nil tables)
     (subst (ArePartsOfAll all (tables ++ [])) (append-nil lists) (before [] [] (subst (λ w. ArePartsOfAll w [] []) (sym e) tt)))
-
--- all shards are on the grid
-pub all_on_grid : (g h : Transform) (ss : List MapOnGrid) → All (λ s. s.grid ≡ g) ss → g ≡ h → are_on h ss ≡ true
-all_on_grid g h [] a e = refl
-all_on_grid g h (s ∷ ss) a e =
-    (λ i. same_grid_same s.grid h (All-head (λ (w : MapOnGrid). w.grid ≡ g) s ss a ∙ e) i && are_on h ss) ∙ all_on_grid g h ss (All-tail (λ (w : MapOnGrid). w.grid ≡ g) s ss a) e

@@ -1,7 +1,6 @@
 -- The parts of many topologies, and their layers by the arcs of one table.
-use Rattle.std.specs.Prelude.{ℕ, ◌+◌, Bool, true, ◌&&◌, List, [], ◌∷◌, map as map_list, Vec}
+use Rattle.std.specs.Prelude.{ℕ, ◌+◌, List, [], ◌∷◌, map as map_list, Vec}
 use Rattle.std.specs.declared.alloc.Global.{Global}
-use Rattle.grid.specs.Place.{Transform}
 use Rattle.grid.specs.declared.pos.Pos.{Pos}
 use Rattle.lines.specs.Turned.{position_cmp}
 use Rattle.shapes.specs.Maps.{Layers}
@@ -10,7 +9,6 @@ use Rattle.chains.specs.Seen.{geometry_of, seen}
 use Rattle.theory.specs.Geometry.{JunctionOf}
 use Rattle.theory.specs.Lists.{Pairwise}
 use Rattle.theory.specs.Topology.{IsLayerOf}
-use Rattle.merging.specs.Meaning.{same_grid}
 use Rattle.refine.specs.OnGrid.{MapOnGrid}
 use Rattle.topo.specs.LayerLaws.CutLayers.{layer_recut}
 use Rattle.split_heal.specs.PartsOfAll.{RecutAllParts, of_table}
@@ -42,8 +40,3 @@ AreLayersOf u table m ls = Pairwise (IsLayerOf position_cmp (JunctionOf (geometr
 -- the map of each shard
 abbrev pub maps_of : List MapOnGrid → List Layers
 maps_of shards = map_list (λ s. s.map) shards
-
--- whether all shards are on the grid
-abbrev pub are_on : Transform → List MapOnGrid → Bool
-are_on g [] = true
-are_on g (s ∷ ss) = same_grid s.grid g && are_on g ss

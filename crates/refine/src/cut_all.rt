@@ -1,12 +1,12 @@
 //! The join of many topologies at once: the arcs of all are cut again, each one's geometries follow the
 //! pieces once, and the sorted layers are merged two by two.
 ghost use Rattle.grid.specs.Place.{Transform};
-ghost use Rattle.merging.specs.Plans.{union_all};
-ghost use Rattle.merging.specs.declared.fault.JoinFault.TheVariants as join_fault;
-ghost use Rattle.refine.specs.ManyLayers.{ArePartsOfAll, AreLayersOf, are_on, layers_in, layers_recut_from, maps_of};
+ghost use Rattle.merging.specs.Plans.{AreOnOneGrid, union_all};
+ghost use Rattle.merging.specs.declared.fault.JoinFault.TheVariants.{OtherGrid};
+ghost use Rattle.refine.specs.ManyLayers.{ArePartsOfAll, AreLayersOf, layers_in, layers_recut_from, maps_of};
 ghost use Rattle.shapes.specs.Maps.{Layers};
 ghost use Rattle.split_heal.specs.PartsOfAll.{of_table};
-ghost use Rattle.std.specs.Prelude.{◌≡◌, ◌<◌, ◌^◌, All, IfOk, IsOkUnless, List, length};
+ghost use Rattle.std.specs.Prelude.{◌≡◌, ◌<◌, ◌^◌, ◌↔◌, All, IfOk, IsErrOf, List, length};
 ghost use Rattle.theory.specs.Lists.{Pairwise};
 ghost use Rattle.topo.specs.GeometryOrder.Noded.{AreNoded};
 ghost use Rattle.topo.specs.LayerLaws.Cuts as cuts;
@@ -17,8 +17,7 @@ use crate::fault::JoinFault;
 use chains::table::{ArcRef, ArcTable};
 use faults::OutOfMemory;
 use grid::transform::Grid;
-use merging::shard::same_grid;
-use merging::{JoinMany, join_all};
+use merging::{ByHalves, JoinMany, are_on_one_grid};
 use split_heal::{RecutAll, recut_all};
 use std::alloc::Global;
 use std::collections::VecDeque;
@@ -116,29 +115,17 @@ fn unite_all(alloc: Global, grid: Grid, shards: Vec<Cut>) -> Result<Topology, Ou
     Ok(Topology::from_parts_without_bbox(grid, arcs, layers))
 }
 
-/// Whether all shards are on a grid.
-fn are_on_grid(shards: &[Cut], grid: &Grid) -> bool
-    ensures { result ≡ are_on grid.now shards.now }
-{
-    for shard in shards {
-        if !same_grid(&shard.topology().grid(), grid) {
-            return false;
-        }
-    }
-    true
-}
-
 /// The shard of the features of all, whose arcs are cut again at once.
 fn join_at_once(alloc: Global, shards: Vec<Cut>) -> Result<Cut, JoinFault>
     requires some { 0 < length shards.items }
     ensures union { IfOk result (λ s. s.map ≡ union_all (maps_of shards.items)) }
     ensures grid { (g : Transform) → All (λ s. s.grid ≡ g) shards.items → IfOk result (λ s. s.grid ≡ g) }
-    ensures memory { (g : Transform) → All (λ s. s.grid ≡ g) shards.items → IsOkUnless result join_fault.OutOfMemory }
+    ensures other_grid { IsErrOf result OtherGrid ↔ ¬ AreOnOneGrid (λ s. s.grid) shards.items }
 {
-    let grid = shards[0].topology().grid();
-    if !are_on_grid(&shards, &grid) {
+    if !are_on_one_grid(&shards) {
         return Err(JoinFault::OtherGrid);
     }
+    let grid = shards[0].topology().grid();
     let topology = unite_all(alloc, grid, shards)?;
     Ok(Cut::of_topology(topology))
 }
@@ -151,10 +138,10 @@ impl JoinMany<Cut> for AtOnce {
         requires some { 0 < length shards.items }
         ensures union { IfOk result (λ s. s.map ≡ union_all (maps_of shards.items)) }
         ensures grid { (g : Transform) → All (λ s. s.grid ≡ g) shards.items → IfOk result (λ s. s.grid ≡ g) }
-        ensures memory { (g : Transform) → All (λ s. s.grid ≡ g) shards.items → IsOkUnless result join_fault.OutOfMemory }
+        ensures other_grid { IsErrOf result OtherGrid ↔ ¬ AreOnOneGrid (λ s. s.grid) shards.items }
     {
         if shards.len() <= MOST_IN_PAIRS {
-            return join_all(alloc, shards);
+            return ByHalves::join_many(alloc, shards);
         }
         join_at_once(alloc, shards)
     }

@@ -1,7 +1,9 @@
 //! Maps joined by plans over each kind of shard. Expected texts are worked out by hand.
-use crate::tests::inputs::{GROUPINGS, Grouping, plan_of};
+use crate::tests::inputs::{GROUPINGS, Grouping, ON_SCALE_TWO, plan_of};
+use merging::{ByHalves, JoinMany};
+use refine::cut_all::AtOnce;
 use refine::cut_shard::Cut;
-use refine::run_plan;
+use refine::{JoinFault, run_plan};
 use refine::shard::Shard;
 use refine::whole::Whole;
 use refused_calls::texts::THREE;
@@ -166,4 +168,29 @@ fn shards_of_many_sizes(rt: HostRuntime) -> Result<(), Fail> {
     check_each_kind(&rt, rt.alloc(), maps.as_slice(), text.as_slice())?;
     maps.reverse();
     check_shards::<Cut>(&rt, rt.alloc(), maps.as_slice(), text.as_slice())
+}
+
+/// Two squares on one grid, and no layer on another.
+fn shards_on_two_grids(alloc: Global) -> Result<Vec<Cut>, Fail> {
+    let maps = squares(alloc, &[FIRST, SECOND])?;
+    let mut made: Vec<Cut> = shards(alloc, maps.as_slice())?;
+    let (grid, map) = topo_io::read(alloc, ON_SCALE_TWO.as_bytes())?;
+    made.push(Cut::from_map(alloc, &grid, &map)?)?;
+    Ok(made)
+}
+
+/// Whether a way to join many finds that the third shard is on another grid.
+fn finds_two_grids<J: JoinMany<Cut>>(alloc: Global) -> Result<bool, Fail> {
+    let shards = shards_on_two_grids(alloc)?;
+    if shards.is_empty() {
+        return Ok(false);
+    }
+    Ok(matches!(J::join_many(alloc, shards), Err(JoinFault::OtherGrid)))
+}
+
+#[test]
+fn shards_on_two_grids_are_refused(rt: HostRuntime) -> Result<(), Fail> {
+    assert!(rt; finds_two_grids::<AtOnce>(rt.alloc())?);
+    assert!(rt; finds_two_grids::<ByHalves>(rt.alloc())?);
+    Ok(())
 }

@@ -1,12 +1,12 @@
 //! Running a plan over a list of shards, by a stack of what is left to do and one of the shards made so far.
 ghost use Rattle.grid.specs.Place.{Transform};
 ghost use Rattle.merging.specs.Leaves.{leaves, HasIndexes};
-ghost use Rattle.merging.specs.Plans.{first_other, off_grid, union_at, plan_fault};
+ghost use Rattle.merging.specs.Plans.{AreOnOneGrid, first_other, off_grid, union_at, plan_fault};
 ghost use Rattle.merging.specs.Running.{LastJoined};
 ghost use Rattle.merging.specs.declared.fault.JoinFault.TheVariants as join_fault;
 ghost use Rattle.merging.specs.declared.fault.PlanFault.TheVariants.{OutOfMemory};
 ghost use Rattle.merging.specs.declared.fault.PlanFault.{PlanFault};
-ghost use Rattle.std.specs.Prelude.{◌≡◌, ◌≤◌, ◌⊎◌, All, IfOk, IfErr, IsOkUnless, None, Some, Err, length, map};
+ghost use Rattle.std.specs.Prelude.{◌≡◌, ◌≤◌, ◌↔◌, ◌⊎◌, true, All, IfOk, IfErr, IsOkUnless, None, Some, Err, length, map};
 
 use crate::fault::{JoinFault, PlanFault};
 use crate::plan::{Plan, first_bad_leaf};
@@ -90,6 +90,13 @@ fn first_other_grid<S: Shard>(shards: &[S]) -> Option<usize>
         return None;
     };
     first_off_grid(shards, first.grid())
+}
+
+/// Whether all shards are on one grid.
+pub fn are_on_one_grid<S: Shard>(shards: &[S]) -> bool
+    ensures { (result ≡ true) ↔ AreOnOneGrid S.grid_of shards.now }
+{
+    first_other_grid(shards).is_none()
 }
 
 /// Joins the shards that the plan names, in its grouping.

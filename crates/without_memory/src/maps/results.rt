@@ -3,7 +3,7 @@
 use chains::{ArcRef, ArcTable};
 use faults::OutOfMemory;
 use grid::Grid;
-use merging::Shard;
+use merging::{Shard, are_on_one_grid};
 use refine::remove::remove;
 use refine::{Cut, Edit, Removal, Session, Whole};
 use refused_calls::comparing::are_used;
@@ -15,6 +15,7 @@ use refused_calls::tables::both;
 use refused_calls::texts::{FIRST, SECOND, SHARED_EDGE, THIRD};
 use split_heal::{HealedArcs, Recut, RecutAll, Side, heal, recut, recut_all};
 use std::alloc::Global;
+use std::slice;
 use topo::Topology;
 
 /// The arcs of two squares, cut again with those of a third and joined again without the second, and the squares
@@ -215,6 +216,7 @@ impl Shards {
             "Shard::grid of Cut" => is_on_grid(&self.cut),
             "Shard::bbox of Whole" => self.whole.bbox().is_none(),
             "Shard::bbox of Cut" => self.cut.bbox() == Some((0, 0, 2, 1)),
+            "merging::are_on_one_grid" => are_on_one_grid(slice::from_ref(&self.cut)),
         );
     }
 }
