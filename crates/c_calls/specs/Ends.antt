@@ -87,7 +87,7 @@ Says Yes No true = Yes
 Says Yes No false = No
 
 -- a question ends with yes, with no, with a reason why there is no answer, or out of memory
-pub record IsVerdict (Yes No : Type 0) (Why : CallRefusal → Type 0) (o : CallOutcome) (old new : List ℕ) : Type 0 where
+pub record EndsWithYesOrNo (Yes No : Type 0) (Why : CallRefusal → Type 0) (o : CallOutcome) (old new : List ℕ) : Type 0 where
   pub statuses : (o.status ≡ 0) ⊎ ((o.status ≡ 1) ⊎ ((o.status ≡ 2) ⊎ ((o.status ≡ 4) ⊎ (o.status ≡ 5))))
   pub yes : o.status ≡ 0 → Yes
   pub no : o.status ≡ 1 → No

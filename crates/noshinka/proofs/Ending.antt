@@ -5,7 +5,7 @@ use Rattle.std.specs.declared.vec.Vec.{Vec}
 use Rattle.std.specs.Result.{IfErr, IfOk}
 use Rattle.std.specs.declared.result.Result.{Result}
 use Rattle.std.specs.declared.result.Result.TheVariants.{Ok, Err}
-use Rattle.c_calls.specs.Ends.{EndsWith, IsDone, IsEnd, IsRefused, IsVerdict, Says}
+use Rattle.c_calls.specs.Ends.{EndsWith, IsDone, IsEnd, IsRefused, EndsWithYesOrNo, Says}
 use Rattle.c_calls.specs.declared.outcome.CallOutcome.{CallOutcome}
 use Rattle.c_calls.specs.declared.refusal.CallRefusal.{CallRefusal}
 use Rattle.c_calls.specs.declared.refusal.CallRefusal.TheVariants.{BadGrid, BadName, BadChoice, NoId, Text, OtherGrid, NoText, BadPlan, NoLayer, OutOfMemory}
@@ -101,7 +101,7 @@ other n m k e apart f = apart (sym e ∙ f)
 
 -- what was found, or why nothing was found
 pub verdicts : (Yes No : Type 0) (Why : CallRefusal → Type 0) (found : Result Bool CallRefusal) (o : CallOutcome) (old new : List ℕ) →
-    IfOk found (Says Yes No) → IfErr found Why → IfOk found (λ b. IsEnd (cond b 0 1) 0 0 o) → IfErr found (λ r. IsRefused r o old new) → IsVerdict Yes No Why o old new
+    IfOk found (Says Yes No) → IfErr found Why → IfOk found (λ b. IsEnd (cond b 0 1) 0 0 o) → IfErr found (λ r. IsRefused r o old new) → EndsWithYesOrNo Yes No Why o old new
 verdicts Yes No Why (Ok true) o old new is why said says = record {
   statuses = inl said.status;
   yes = λ s. is;

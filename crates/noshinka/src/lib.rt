@@ -7,7 +7,7 @@ ghost use Rattle.merging.specs.Merge.{borrowed_texts, IsMergeOf};
 ghost use Rattle.noshinka.specs.Answers.{IsCanonical, IsFeatureText, IsInfoAnswer, IsNotCanonical, IsRemoval};
 ghost use Rattle.noshinka.specs.Asking.{IsMeshRefusal, IsMeshText, IsNeighborsAnswer, IsNeighborsRefusal};
 ghost use Rattle.noshinka.specs.Differing.{IsDiffAsked, IsDiffRefusal};
-ghost use Rattle.c_calls.specs.Ends.{EndsWith, IsVerdict};
+ghost use Rattle.c_calls.specs.Ends.{EndsWith, EndsWithYesOrNo};
 ghost use Rattle.c_calls.specs.Borrowed.{grid_of, borrowed_sources};
 ghost use Rattle.noshinka.specs.Listing.{IsFaultsAnswer, IsListRefusal};
 ghost use Rattle.noshinka.specs.Editing.{IsEditAnswer, IsEditRefusal};
@@ -102,7 +102,7 @@ pub extern "C" fn noshinka_remove(
 /// Says whether a topology's text is canonical: status 0, or 1 if it isn't. The room is for the path of a fault alone.
 #[unsafe(no_mangle)]
 pub extern "C" fn noshinka_check(alloc: Global, text: &[u8], room: &mut [u8]) -> CallOutcome
-    ensures { IsVerdict (IsCanonical text.now) (IsNotCanonical text.now) (IsTextRefusal 0 text.now) result room.old room.new }
+    ensures { EndsWithYesOrNo (IsCanonical text.now) (IsNotCanonical text.now) (IsTextRefusal 0 text.now) result room.old room.new }
 {
     verdict(alloc, check(alloc, text), room)
 }

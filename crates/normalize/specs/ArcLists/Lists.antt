@@ -103,12 +103,12 @@ pub record AreBroken (arcs : List (List Pos)) (used : List ArcRef) : Type 0 wher
   pub none : (l : List Pos) → ¬ StitchTo arcs used l
 
 -- what is known of used arcs is so [TopoJSON, 2.1.4]
-abbrev pub IsVerdict : (List Pos → Option ShapeFault) → List (List Pos) → List ArcRef → ListVerdict → Type 0
-IsVerdict fault arcs used Sound = StitchToFault fault arcs used None
-IsVerdict fault arcs used Broken = AreBroken arcs used
-IsVerdict fault arcs used (Faulty f) = StitchToFault fault arcs used (Some f)
-IsVerdict fault arcs used NeedsPositions = (l : List Pos) × StitchTo arcs used l
-IsVerdict fault arcs used NoEnds = Unit {0}
+abbrev pub IsListVerdict : (List Pos → Option ShapeFault) → List (List Pos) → List ArcRef → ListVerdict → Type 0
+IsListVerdict fault arcs used Sound = StitchToFault fault arcs used None
+IsListVerdict fault arcs used Broken = AreBroken arcs used
+IsListVerdict fault arcs used (Faulty f) = StitchToFault fault arcs used (Some f)
+IsListVerdict fault arcs used NeedsPositions = (l : List Pos) × StitchTo arcs used l
+IsListVerdict fault arcs used NoEnds = Unit {0}
 
 -- what the first stitch to has the faults of something that the others stitch to
 abbrev pub SameFaults : List (List Pos) → List ArcRef → List ArcRef → Type 0

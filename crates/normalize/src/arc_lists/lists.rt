@@ -1,7 +1,7 @@
 //! What is known of lists of used arcs by what is known of the arcs.
 ghost use Rattle.normalize.specs.ArcLists.Labels.{ShareLabels, ShareLabels-prop};
 ghost use Rattle.normalize.specs.ArcLists.Lists as spec;
-ghost use Rattle.normalize.specs.ArcLists.Lists.{AreOnce, HaveLabels, IsVerdict, SameFaults, UsesTwice};
+ghost use Rattle.normalize.specs.ArcLists.Lists.{AreOnce, HaveLabels, IsListVerdict, SameFaults, UsesTwice};
 ghost use Rattle.normalize.specs.ArcLists.Summaries.{AreSummaries, AreSummaries-prop};
 ghost use Rattle.grid.specs.declared.pos.Pos.{Pos};
 ghost use Rattle.lines.specs.Reading.{line_fault, ring_fault};
@@ -169,8 +169,8 @@ impl ArcLists<'_> {
     /// What is known of used arcs that don't run on.
     fn verdict_without_run(&self, used: &[ArcRef]) -> ListVerdict
         requires { (v w : Pos) → ¬ (used.now ≡ []) → ¬ Runs self.now.arcs.now v used.now w }
-        ensures line { IsVerdict (line_fault position_cmp) self.now.arcs.now used.now result }
-        ensures ring { IsVerdict (ring_fault position_cmp) self.now.arcs.now used.now result }
+        ensures line { IsListVerdict (line_fault position_cmp) self.now.arcs.now used.now result }
+        ensures ring { IsListVerdict (ring_fault position_cmp) self.now.arcs.now used.now result }
     {
         if used.is_empty() {
             return ListVerdict::Faulty(ShapeFault::TooShort);
@@ -186,7 +186,7 @@ impl ArcLists<'_> {
     /// # Errors
     /// Where memory is refused.
     pub fn line(&self, alloc: Global, used: &[ArcRef]) -> Result<ListVerdict, OutOfMemory>
-        ensures { IfOk result (IsVerdict (line_fault position_cmp) self.now.arcs.now used.now) }
+        ensures { IfOk result (IsListVerdict (line_fault position_cmp) self.now.arcs.now used.now) }
     {
         let Some((start, end)) = run(self.arcs, used) else {
             return Ok(self.verdict_without_run(used));
@@ -216,7 +216,7 @@ impl ArcLists<'_> {
     /// # Errors
     /// Where memory is refused.
     pub fn ring(&self, alloc: Global, used: &[ArcRef]) -> Result<ListVerdict, OutOfMemory>
-        ensures { IfOk result (IsVerdict (ring_fault position_cmp) self.now.arcs.now used.now) }
+        ensures { IfOk result (IsListVerdict (ring_fault position_cmp) self.now.arcs.now used.now) }
     {
         let Some((start, end)) = run(self.arcs, used) else {
             return Ok(self.verdict_without_run(used));

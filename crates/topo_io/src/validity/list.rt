@@ -1,5 +1,5 @@
 //! Lists of indexes of arcs, validated by their arcs.
-ghost use Rattle.normalize.specs.ArcLists.Lists.{IsVerdict};
+ghost use Rattle.normalize.specs.ArcLists.Lists.{IsListVerdict};
 ghost use Rattle.reading.specs.FaultLists.Found.{AtMostOne, pairs_of};
 ghost use Rattle.reading.specs.Fault.{LeastOrWant};
 ghost use Rattle.reading.specs.Outlines.{outline_kind};
@@ -46,7 +46,7 @@ fn verdict_of(
     kind: OutlineType,
     used: &[ArcRef],
 ) -> Result<ListVerdict, OutOfMemory>
-    ensures { IfOk result (IsVerdict (fault_of kind) lists.now.arcs.now used.now) }
+    ensures { IfOk result (IsListVerdict (fault_of kind) lists.now.arcs.now used.now) }
 {
     match kind {
         OutlineType::Line => lists.line(alloc, used),
@@ -111,7 +111,7 @@ fn judge_tangled(
     kind: OutlineType,
     used: &[ArcRef],
 ) -> Result<(), Fault>
-    requires { IsVerdict (fault_of kind) lists.now.arcs.now used.now ListVerdict.NeedsPositions }
+    requires { IsListVerdict (fault_of kind) lists.now.arcs.now used.now ListVerdict.NeedsPositions }
     ensures ok { OnOk result (used_faults lists.now.arcs.now kind used.now ≡ []) }
     ensures err { IfErr result (λ f. LeastOrWant (used_faults lists.now.arcs.now kind used.now) f) }
 {
@@ -129,7 +129,7 @@ fn judge_verdict(
     used: &[ArcRef],
     told: ListVerdict,
 ) -> Result<(), Fault>
-    requires { IsVerdict (fault_of kind) lists.now.arcs.now used.now told }
+    requires { IsListVerdict (fault_of kind) lists.now.arcs.now used.now told }
     ensures ok { OnOk result (used_faults lists.now.arcs.now kind used.now ≡ []) }
     ensures err { IfErr result (λ f. LeastOrWant (used_faults lists.now.arcs.now kind used.now) f) }
 {

@@ -57,12 +57,7 @@ fn body_stitches(alloc: Global, lists: &ArcLists, body: &Body) -> Result<bool, O
     if !all_stitch(alloc, lists, OutlineType::Line, body.lines())? {
         return Ok(false);
     }
-    Ok(all_stitch(
-        alloc,
-        lists,
-        OutlineType::Ring,
-        body.rings(),
-    )?)
+    Ok(all_stitch(alloc, lists, OutlineType::Ring, body.rings())?)
 }
 
 fn geometries_stitch(
