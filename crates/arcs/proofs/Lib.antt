@@ -16,3 +16,4 @@ pub mod Backwards
 pub mod SetMarks
 pub mod EndsAlong
 pub mod Steps
+pub mod TextsLeft

@@ -138,8 +138,8 @@ marks_tell n us k = (to, from)
         elim (uses_or k us) [
           | inl u ↦ (lt, u)
           | inr m ↦ absurd (let f : false ≡ true =
-          sym (other_mark true (replicate n false) us k false m ∙ get_or-replicate n k false false lt)
-          ∙ get_or_from_slice_get (marks_set true (replicate n false) us) k true false e in cc)
+              sym (other_mark true (replicate n false) us k false m ∙ get_or-replicate n k false false lt)
+              ∙ get_or_from_slice_get (marks_set true (replicate n false) us) k true false e in cc)
         ]
 
     from : (k < n) × Uses k us → slice_get (marks_set true (replicate n false) us) k ≡ Some true

@@ -11,3 +11,4 @@ pub mod ArcMarks
 pub mod Ends
 pub mod Steps
 pub mod Pieces
+pub mod ArcTexts

@@ -18,6 +18,7 @@ pub mod table;
 pub mod table_arcs;
 pub mod turning;
 pub mod used_arcs;
+pub mod writing;
 
 pub use arc_marks::ArcMarks;
 pub use arcs_box::Extent;

@@ -15,7 +15,7 @@ use Rattle.chains.specs.Seen.{Info}
 use Rattle.topo.specs.OfMap.{Seen}
 use Rattle.topo.specs.Parts.{Corners}
 use Rattle.shapes.specs.Writing.Members.{id_text}
-use Rattle.topo.specs.ArcTexts.{position_text, differences_text, arc_text, index_text}
+use Rattle.arcs.specs.ArcTexts.{position_text, differences_text, arc_text, index_text}
 use Rattle.shapes.specs.Writing.Members.{properties_member}
 use Rattle.topo_io.specs.TopologyText.{content_text, type_text, geometry_text, layer_text, bbox_text, transform_text, topology_text}
 use Rattle.round_trip.specs.Compact.Values.{list_data, given, id_data, properties_data}

@@ -1,4 +1,3 @@
-pub mod TextsLeft
 pub mod Walks
 pub mod Runs
 pub mod Boxes

@@ -1,4 +1,3 @@
-pub mod ArcTexts
 pub mod Walked
 pub mod Left
 pub mod Bodies

@@ -17,7 +17,6 @@ pub mod stitching;
 pub mod topology;
 pub mod used_arcs;
 pub mod walk;
-pub mod writing;
 
 pub use arc_slice::ArcSlice;
 pub use geom::{Body, Geom};

@@ -10,7 +10,7 @@ use Rattle.sinks.specs.Texts.{joined, list_text, option_text}
 use Rattle.topo.specs.Parts.{Corners, LayerParts, TopologyParts}
 use Rattle.topo.specs.OfMap.{item_of, layer_of, seen_parts}
 use Rattle.topo.specs.declared.geom.Geom.{Geom}
-use Rattle.topo.specs.ArcTexts.{arc_text}
+use Rattle.arcs.specs.ArcTexts.{arc_text}
 use Rattle.topo_io.specs.TopologyText.{geometry_text, layer_text, bbox_text, transform_of, transform_text, topology_text}
 use Rattle.shapes.proofs.WritingLemmas.Joined.{joined_map, list_text_map}
 

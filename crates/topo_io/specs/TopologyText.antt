@@ -8,7 +8,7 @@ use Rattle.shapes.specs.Parts.{properties_text}
 use Rattle.shapes.specs.Spelling.{spelling_of}
 use Rattle.sinks.specs.Texts.{joined, list_text, option_text, pair_text}
 use Rattle.theory.specs.Topology.{Item, Layer, Body, null, point, points, line, lines, polygon, polygons}
-use Rattle.topo.specs.ArcTexts.{position_text, arc_text, index_text}
+use Rattle.arcs.specs.ArcTexts.{position_text, arc_text, index_text}
 use Rattle.topo.specs.OfMap.{Seen}
 use Rattle.topo.specs.Parts.{Corners}
 use Rattle.shapes.specs.Writing.Members.{id_text, properties_member}

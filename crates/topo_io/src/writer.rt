@@ -7,6 +7,7 @@ ghost use Rattle.std.specs.Prelude.{◌≡◌, List, ◌++◌, codes, IfOk, OnEr
 ghost use Rattle.topo.specs.OfMap.{body_of, item_of, layer_of, seen_parts};
 ghost use Rattle.topo_io.specs.TopologyText.{content_text, type_text, geometry_text, layer_text, bbox_text, transform_of, transform_text, topology_text};
 
+use arcs::writing::{ArcIndexes, ArcsText, PositionNumbers};
 use faults::OutOfMemory;
 use shapes::writing::{IdMember, Lists, PropertiesMember};
 use sinks::written::{
@@ -16,7 +17,6 @@ use sinks::{Kept, Sink, WriteFault};
 use std::alloc::Global;
 use topo::geom::{Body, Geom};
 use topo::topology::{Layer, Topology};
-use topo::writing::{ArcIndexes, ArcsText, PositionNumbers};
 
 /// The member `coordinates` or `arcs` and a comma.
 #[derive(Clone, Copy)]

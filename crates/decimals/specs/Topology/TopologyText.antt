@@ -6,7 +6,7 @@ use Rattle.shapes.specs.Parts.{spelled_text}
 use Rattle.shapes.specs.Spelling.{spelling_of}
 use Rattle.sinks.specs.Texts.{joined, list_text, option_text, pair_text}
 use Rattle.theory.specs.ArcNumbers.{ArcRef}
-use Rattle.topo.specs.ArcTexts.{arc_text, index_text, position_text}
+use Rattle.arcs.specs.ArcTexts.{arc_text, index_text, position_text}
 use Rattle.topo.specs.Parts.{Corners, TopologyParts}
 use Rattle.topo.specs.Bodies.{Body}
 use Rattle.shapes.specs.declared.form.Form.TheVariants as of

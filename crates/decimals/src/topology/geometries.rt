@@ -3,12 +3,12 @@ ghost use Rattle.decimals.specs.Topology.TopologyText.{body_text, geometry_text,
 ghost use Rattle.shapes.specs.Writing.Members.{properties_member};
 
 use crate::topology::layers::{BackGeometry, BackLayer};
+use arcs::writing::ArcIndexes;
 use grid::Pos;
 use shapes::writing::{IdMember, Lists};
 use sinks::written::{Listed, Notation, Noted, Text, Then, Written};
 use sinks::{Sink, WriteFault, put};
 use topo::geom::Body;
-use topo::writing::ArcIndexes;
 
 /// The type of a geometry, and what it is made of, its positions in a notation.
 #[derive(Clone, Copy)]

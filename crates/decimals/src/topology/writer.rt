@@ -5,7 +5,7 @@ ghost use Rattle.decimals.specs.declared.topology.fault.DecimalFault.TheVariants
 ghost use Rattle.sinks.specs.Texts.{option_text};
 ghost use Rattle.sinks.specs.Writes.{TookAll};
 ghost use Rattle.std.specs.Prelude.{◌≡◌, ◌<◌, ◌≤◌, Err, IfOk, IfSome, OnOk};
-ghost use Rattle.topo.specs.ArcTexts.{arc_text, position_text};
+ghost use Rattle.arcs.specs.ArcTexts.{arc_text, position_text};
 
 use crate::topology::area::areas_of;
 use crate::topology::fault::DecimalFault;
@@ -14,6 +14,7 @@ use crate::topology::layers::BackLayer;
 use crate::topology::pairs::{pair_of, write_pair};
 use crate::topology::rules::BackRules;
 use crate::topology::turning::Turning;
+use arcs::writing::{ArcsText, PositionNumbers};
 use chains::table::ArcTable;
 use faults::OutOfMemory;
 use grid::Grid;
@@ -22,7 +23,6 @@ use sinks::written::{Each, Text, Then, Written};
 use sinks::{Kept, Sink, WriteFault};
 use std::alloc::Global;
 use topo::topology::Topology;
-use topo::writing::{ArcsText, PositionNumbers};
 
 /// The member `transform`. The differences in the arcs are steps of the scale.
 fn write_transform<W: Sink>(

@@ -1,6 +1,6 @@
 use Rattle.std.proofs.Common.{◌∙◌}
 use Rattle.decimals.specs.Topology.TopologyText.{quantized_arc}
-use Rattle.topo.proofs.TextsLeft.{text_more, texts_begun, texts_done}
+use Rattle.arcs.proofs.TextsLeft.{text_more, texts_begun, texts_done}
 use Rattle.decimals.proofs.topology.quantized_writer.write_arcs.Goals as goal
 
 pub loop-arc-init : goal.loop-arc-init

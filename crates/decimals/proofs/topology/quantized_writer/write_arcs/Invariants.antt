@@ -1,7 +1,7 @@
 use Rattle.sinks.specs.Texts.{joined}
 use Rattle.sinks.specs.Writes.{TookUpTo}
 use Rattle.decimals.specs.Topology.TopologyText.{quantized_arc}
-use Rattle.topo.proofs.TextsLeft.{behind}
+use Rattle.arcs.proofs.TextsLeft.{behind}
 use Rattle.decimals.proofs.topology.quantized_writer.write_arcs.Given as goal
 
 abbrev pub invariant-loop-arc : goal.invariant-loop-arc

@@ -1,6 +1,6 @@
 use Rattle.std.proofs.Common.{◌∙◌}
 use Rattle.geojson_io.specs.CollectionText.{line_text}
-use Rattle.topo.proofs.TextsLeft.{text_more, text_part, texts_begun, texts_done}
+use Rattle.arcs.proofs.TextsLeft.{text_more, text_part, texts_begun, texts_done}
 use Rattle.query.proofs.writer.LinesInWritten.write.Goals as goal
 
 pub loop-line-init : goal.loop-line-init

@@ -1,7 +1,7 @@
 use Rattle.sinks.specs.Texts.{joined}
 use Rattle.sinks.specs.Writes.{TookUpTo}
 use Rattle.geojson_io.specs.CollectionText.{line_text}
-use Rattle.topo.proofs.TextsLeft.{behind}
+use Rattle.arcs.proofs.TextsLeft.{behind}
 use Rattle.query.proofs.writer.LinesInWritten.write.Given as goal
 
 abbrev pub invariant-loop-line : goal.invariant-loop-line

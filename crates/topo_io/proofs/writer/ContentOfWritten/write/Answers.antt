@@ -3,7 +3,7 @@ use Rattle.std.specs.Result.{OnOk}
 use Rattle.sinks.specs.Texts.{list_text}
 use Rattle.sinks.specs.Writes.{TookAll}
 use Rattle.topo.specs.OfMap.{body_of}
-use Rattle.topo.specs.ArcTexts.{position_text}
+use Rattle.arcs.specs.ArcTexts.{position_text}
 use Rattle.topo_io.specs.TopologyText.{content_text}
 use Rattle.topo_io.proofs.writer.ContentOfWritten.write.Goals as goal
 

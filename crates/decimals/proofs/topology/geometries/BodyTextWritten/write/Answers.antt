@@ -2,7 +2,7 @@ use Rattle.std.proofs.Common.{ℕ, List, ◌++◌, ◌∙◌, subst, sym, ap, co
 use Rattle.std.specs.Result.{OnOk}
 use Rattle.sinks.specs.Texts.{list_text}
 use Rattle.sinks.specs.Writes.{TookAll}
-use Rattle.topo.specs.ArcTexts.{index_text}
+use Rattle.arcs.specs.ArcTexts.{index_text}
 use Rattle.decimals.specs.Topology.TopologyText.{body_text, list_of_lists}
 use Rattle.decimals.proofs.topology.geometries.BodyTextWritten.write.Goals as goal
 

@@ -1,7 +1,7 @@
 use Rattle.std.proofs.Common.{◌∙◌}
-use Rattle.topo.specs.ArcTexts.{arc_text}
-use Rattle.topo.proofs.TextsLeft.{text_more, text_part, texts_begun, texts_done}
-use Rattle.topo.proofs.writing.ArcsTextWritten.write.Goals as goal
+use Rattle.arcs.specs.ArcTexts.{arc_text}
+use Rattle.arcs.proofs.TextsLeft.{text_more, text_part, texts_begun, texts_done}
+use Rattle.arcs.proofs.writing.ArcsTextWritten.write.Goals as goal
 
 pub loop-arc-init : goal.loop-arc-init
 loop-arc-init g c =

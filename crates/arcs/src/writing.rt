@@ -2,10 +2,10 @@
 ghost use Rattle.sinks.specs.Texts.{joined};
 ghost use Rattle.sinks.specs.Writes.{TookAll, TookPart};
 ghost use Rattle.std.specs.Prelude.{◌≡◌, ◌-ℤ◌, OnErr, OnOk};
-ghost use Rattle.topo.specs.ArcTexts.{position_text, differences_text, arc_positions, arc_text, index_text};
+ghost use Rattle.arcs.specs.ArcTexts.{position_text, differences_text, arc_positions, arc_text, index_text};
 
-use chains::table::{ArcRef, ArcTable};
-use grid::Pos;
+use crate::table::{ArcRef, ArcTable};
+use grid::pos::Pos;
 use itoa::Buffer;
 use sinks::written::{Bracketed, Notation, Pair, PairAfterComma, Text, Then, Written};
 use sinks::{Sink, WriteFault, put};

@@ -1,7 +1,7 @@
 use Rattle.std.proofs.Common.{ap}
-use Rattle.topo.specs.ArcTexts.{difference_text, differences_text}
+use Rattle.arcs.specs.ArcTexts.{difference_text, differences_text}
 use Rattle.sinks.proofs.Left.{left_step, left_part}
-use Rattle.topo.proofs.writing.write_differences.Goals as goal
+use Rattle.arcs.proofs.writing.write_differences.Goals as goal
 
 pub loop-p-preserved : goal.loop-p-preserved
 loop-p-preserved g c =
