@@ -7,7 +7,7 @@ use Rattle.refine.specs.Edits.{IsEditedTo, IsOnGrid}
 use Rattle.refine.specs.declared.edit.Edit.{Edit}
 use Rattle.refine.specs.declared.edit.Edit.TheVariants.{Join, Remove}
 use Rattle.topo.specs.LayerLaws.Less.{less}
-use Rattle.topo.specs.LayerLaws.OneMap.{one_map}
+use Rattle.topo.proofs.LayerLawsLemmas.OneMap.{one_map}
 use Rattle.shapes.specs.Maps.{Layers}
 use Rattle.shapes.specs.Union.{union}
 use Rattle.topo.specs.OfMap.{IsOf}

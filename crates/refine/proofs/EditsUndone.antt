@@ -4,7 +4,7 @@ use Rattle.shapes.specs.Union.{union}
 use Rattle.refine.specs.EditLaws.{JoinsAreUndoneByEdits, OneEditIsAList}
 use Rattle.refine.specs.Edits.{IsEditedTo}
 use Rattle.topo.specs.LayerLaws.Less.{less}
-use Rattle.topo.specs.LayerLaws.OneMap.{one_map}
+use Rattle.topo.proofs.LayerLawsLemmas.OneMap.{one_map}
 use Rattle.topo.proofs.LayerLawsLemmas.JoinUndone.{join_undone}
 
 pub one_edit : OneEditIsAList

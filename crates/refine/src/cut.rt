@@ -4,7 +4,7 @@ ghost use Rattle.topo.specs.GeometryOrder.Noded.{AreNoded};
 ghost use Rattle.topo.specs.GeometryOrder.Noted.{IsNotedFor};
 ghost use Rattle.topo.specs.LayerLaws.CutLayers.{before, behind, layer_cmp, layer_recut, layers_as_one, layers_merged, tied, to_first, with_other};
 ghost use Rattle.topo.specs.LayerLaws.Cuts as cuts;
-ghost use Rattle.topo.specs.LayerLaws.ItsMap.{ItsMap, ItsMap-prop};
+ghost use Rattle.topo.proofs.LayerLawsLemmas.ItsMap.{ItsMap, ItsMap-prop};
 ghost use Rattle.merging.specs.declared.fault.JoinFault.TheVariants.{OtherGrid};
 ghost use Rattle.split_heal.specs.SplitParts.{of_side};
 ghost use Rattle.shapes.specs.Maps.{Layers};

@@ -1,3 +1,5 @@
+pub mod OneMap
+pub mod ItsMap
 pub mod Ascending
 pub mod MergedSets
 pub mod MergedLayers

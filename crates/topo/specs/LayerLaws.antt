@@ -2,7 +2,5 @@ pub mod Less
 pub mod Cuts
 pub mod CutLayers
 pub mod CutLaws
-pub mod OneMap
-pub mod ItsMap
 pub mod Leaving
 pub mod LeftLists

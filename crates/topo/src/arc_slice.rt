@@ -1,5 +1,4 @@
 //! What is left of an arc, to be read in the direction in which it is used.
-ghost use Rattle.arcs.specs.Table.{same_list};
 ghost use Rattle.lines.specs.Pairs.{position_eq};
 ghost use Rattle.std.specs.Iterator.{YieldsFirstRef, YieldsLastRef};
 ghost use Rattle.std.specs.Prelude.{◌≡◌, ◌≤◌, ◌↔◌, [], true, drop, length, reverse, take};
@@ -14,12 +13,6 @@ pub fn is_same(position: &Pos, other: &Pos) -> bool
     ensures { result ≡ position_eq position.now other.now }
 {
     position == other
-}
-
-fn are_same(positions: &[Pos], others: &[Pos]) -> bool
-    ensures { result ≡ same_list positions.now others.now }
-{
-    positions == others
 }
 
 /// Whether positions, read backwards, are the others.
@@ -166,7 +159,7 @@ impl<'a> ArcSlice<'a> {
         if self.reversed {
             are_turned(self.positions, positions)
         } else {
-            are_same(self.positions, positions)
+            self.positions == positions
         }
     }
 }

@@ -11,13 +11,14 @@ use Rattle.grid.specs.declared.pos.Pos.{Pos}
 use Rattle.lines.specs.Turned.{list_cmp}
 use Rattle.lines.specs.declared.line.Line as the_line
 use Rattle.lines.specs.declared.ring.Ring as the_ring
+use Rattle.shapes.specs.Order as order
 use Rattle.shapes.specs.Shapes as shapes
 use Rattle.shapes.specs.declared.form.Form.TheVariants as of
 use Rattle.theory.specs.ArcNumbers.{ArcRef}
 use Rattle.theory.specs.Lists.{Pairwise}
 use Rattle.topo.proofs.FeatureOrder.{line_form, ring_form}
 use Rattle.topo.specs.Features.{HasFeature, IsLineOf, IsRingOf, IsShapeOf}
-use Rattle.topo.specs.GeometryOrder.{body_form, body_rank, form_cmp, geometry_cmp, info_cmp, kind_cmp, vertices_used}
+use Rattle.topo.specs.GeometryOrder.{body_form, body_rank, form_cmp, form_rank, geometry_cmp, info_cmp, kind_cmp, vertices_used}
 use Rattle.topo.specs.Walked.{walked}
 use Rattle.topo.specs.Bodies as bodies
 use Rattle.topo.specs.declared.geom.Geom.{Geom}
@@ -25,7 +26,7 @@ use Rattle.topo.proofs.GeometryOrderLemmas.RingsStand.{lines_stand, rings_stand}
 use Rattle.topo.specs.GeometryOrder.Least.{least_of}
 use Rattle.topo.specs.GeometryOrder.Lists.{bodies_cmp, line_refs_cmp, ring_refs_cmp}
 use Rattle.topo.specs.GeometryOrder.Noded.{AreNoded}
-use Rattle.topo.specs.LayerLaws.OneMap.{is_line, is_lines, is_polygon, is_polygons}
+use Rattle.topo.proofs.LayerLawsLemmas.OneMap.{is_line, is_lines, is_polygon, is_polygons}
 
 -- where lists are paired with others, each has one that is paired with it
 each_has : {A B : Type 0} (R : A → B → Type 0) (xs : List A) (us : List B) → Pairwise R xs us → AllByRecursion (λ u. (x : A) × R x u) us
@@ -61,8 +62,15 @@ module _ (arcs : List (List Pos)) (noded : AreNoded arcs) where
       lex_map (vertices_used arcs) list_cmp ls ks
       ∙ slices_agree HasRing (λ us vs. list_cmp (vertices_used arcs us) (vertices_used arcs vs)) (ring_refs_cmp arcs (least_of arcs)) rings_agree ls ks h k
 
+  rank_is : (b : bodies.Body) → form_rank (body_form arcs b) ≡ order.form_rank b
+  rank_is of.Null = refl
+  rank_is b = refl
+
   pub bodies_stand : (b c : bodies.Body) (s t : shapes.Shape) → IsShapeOf arcs s b → IsShapeOf arcs t c →
       form_cmp (body_form arcs b) (body_form arcs c) ≡ bodies_cmp arcs (least_of arcs) b c
+  bodies_stand of.Null c s t h k = ap (nat_cmp 0) (rank_is c)
+  bodies_stand (of.Point p) (of.Point q) s t h k = refl
+  bodies_stand (of.MultiPoint ps) (of.MultiPoint qs) s t h k = refl
   bodies_stand (of.Line us) (of.Line vs) s t h k =
       let (l, _, m) = is_line arcs s us h in
       let (o, _, n) = is_line arcs t vs k in

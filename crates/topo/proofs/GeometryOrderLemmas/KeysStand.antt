@@ -7,12 +7,12 @@ use Rattle.std.specs.Cmp.Derive.Mapped.{lex_map}
 use Rattle.std.specs.Cmp.Lexicographic.{lists_total, nat_list_cmp_total, options_total, slice_cmp}
 use Rattle.std.specs.List.{AllByRecursion}
 use Rattle.std.specs.List.Sorted.{IsPermutation, IsSorted, IsSortedBy}
-use Rattle.std.specs.Ordering.{is_lt, ordering_then}
+use Rattle.std.specs.Ordering.{is_lt, nat_cmp, ordering_then}
 use Rattle.std.specs.declared.cmp.Ordering.{Ordering}
 use Rattle.grid.specs.declared.pos.Pos.{Pos}
 use Rattle.lines.proofs.SortedLists.{Has-permutation}
 use Rattle.shapes.specs.Forms.{form_map}
-use Rattle.shapes.specs.Order.{form_cmp, id_cmp}
+use Rattle.shapes.specs.Order.{form_cmp, form_rank, id_cmp}
 use Rattle.shapes.specs.OrderLaws.{form_cmp_total}
 use Rattle.shapes.specs.contracts.shape.IdOrd.TheImpl.Laws.{total-law}
 use Rattle.shapes.specs.declared.form.Form.{Form}
@@ -33,9 +33,17 @@ use Rattle.topo.specs.declared.geometry_order.sorting.Keyed.{Keyed}
 use Rattle.topo.proofs.GeometryOrderLemmas.BodiesStand.{bodies_stand}
 use Rattle.topo.proofs.LayerLawsLemmas.Passing.{at_place}
 
+mapped_rank : {L R M : Type 0} (h : L → M) (k : R → M) (b : Form L R) → form_rank (form_map h k b) ≡ form_rank b
+mapped_rank h k to.Null = refl
+mapped_rank h k b = refl
+
 -- forms whose lines and rings become others stand by these
 mapped_stand : {L R M : Type 0} (f : M → M → Ordering) (h : L → M) (k : R → M) (b c : Form L R) →
     form_cmp f f (form_map h k b) (form_map h k c) ≡ form_cmp (λ x y. f (h x) (h y)) (λ x y. f (k x) (k y)) b c
+mapped_stand f h k to.Null c = ap (nat_cmp 0) (mapped_rank h k c)
+mapped_stand f h k (to.Point p) (to.Point q) = refl
+mapped_stand f h k (to.MultiPoint ps) (to.MultiPoint qs) = refl
+mapped_stand f h k (to.Line l) (to.Line m) = refl
 mapped_stand f h k (to.MultiLine ls) (to.MultiLine ks) = lex_map h f ls ks
 mapped_stand f h k (to.Polygon ls) (to.Polygon ks) = lex_map k f ls ks
 mapped_stand f h k (to.MultiPolygon ps) (to.MultiPolygon qs) = lex_map (map k) (slice_cmp f) ps qs ∙ (λ i. slice_cmp (λ ls ks. lex_map k f ls ks i) ps qs)

@@ -18,7 +18,7 @@ use Rattle.shapes.specs.declared.form.Form.TheVariants as to
 use Rattle.topo.specs.declared.geom.Geom.{Geom}
 use Rattle.topo.proofs.Stitched.{feature_of}
 use Rattle.topo.specs.LayerLaws.CutLaws.{EqualFeaturesEqualLists, IsListedFor, SameLists}
-use Rattle.topo.specs.LayerLaws.OneMap.{one_feature}
+use Rattle.topo.proofs.LayerLawsLemmas.OneMap.{one_feature}
 use Rattle.topo.proofs.LayerLawsLemmas.RecutGeometries.{order}
 
 module _ (g : Geometry Pos) (sound : IsSound g) (arcs : List (List Pos)) (all : AreArcsOf position_cmp g arcs) where

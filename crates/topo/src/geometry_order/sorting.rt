@@ -35,9 +35,9 @@ fn with_keys(
 ) -> Result<Vec<Keyed>, OutOfMemory>
     ensures { IfOk result (λ v. v.items ≡ map (keyed view.now.arcs.now.arcs view.now.least.now) geometries.items) }
 {
+    let (line, ring) = (LineSteps(view.arcs), RingSteps(&*view));
     let mut made = Vec::with_capacity(alloc, geometries.len())?;
     for geometry in geometries {
-        let (line, ring) = (LineSteps(view.arcs), RingSteps(view));
         let key = geometry.body.try_map(alloc, &line, &ring)?;
         made.push(Keyed { geometry, key })?;
     }

@@ -1,5 +1,5 @@
 use Rattle.std.proofs.Common.{sym, subst}
-use Rattle.topo.specs.LayerLaws.ItsMap.{its_map_is}
+use Rattle.topo.proofs.LayerLawsLemmas.ItsMap.{its_map_is}
 use Rattle.refine.specs.OnGrid.{IsKeptFor}
 use Rattle.refine.proofs.cut.Cut.of_topology.Goals as goal
 

@@ -9,7 +9,7 @@ use Rattle.shapes.specs.Sets as set
 use Rattle.shapes.specs.contracts.feature.Feature as feature
 use Rattle.topo.specs.OfMap.{IsOf}
 use Rattle.topo.specs.Parts.{TopologyParts}
-use Rattle.topo.specs.LayerLaws.OneMap.{one_map}
+use Rattle.topo.proofs.LayerLawsLemmas.OneMap.{one_map}
 
 -- the map that a topology is of
 abbrev pub ItsMap : TopologyParts → Type 0

@@ -1,6 +1,6 @@
 use Rattle.std.proofs.Common.{◌≤◌, length, subst, sym}
 use Rattle.topo.proofs.GeometryOrderLemmas.LeastSteps.{lead_within}
-use Rattle.topo.proofs.geometry_order.keys.RingStepsBecome.make.Goals as goal
+use Rattle.topo.proofs.geometry_order.keys.RingStepsBecomeItemsArcRef.make.Goals as goal
 
 pub split_at-requires : goal.split_at-requires
 split_at-requires c =
