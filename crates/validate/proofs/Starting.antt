@@ -16,11 +16,11 @@ use Rattle.arcs.specs.Steps.{first_of, step, step_along, step_cmp}
 use Rattle.arcs.specs.declared.step.Step.{Step}
 use Rattle.validate.specs.RingStarts.{before_if, none_starts, none_starts_if, starts_least}
 
-from_or : Pos → Option Step → Pos
+abbrev from_or : Pos → Option Step → Pos
 from_or d None = d
 from_or d (Some s) = s.from
 
-to_or : Pos → Option Step → Pos
+abbrev to_or : Pos → Option Step → Pos
 to_or d None = d
 to_or d (Some s) = s.to
 
