@@ -25,13 +25,11 @@ pub parts_of_a_map : (t : Arcs) (ls : List LayerParts) → HaveI64 ls → AreVal
 parts_of_a_map t ls b h = let (m, is) = layers_make_a_map t ls h.stand b h.order in (m, layers_are_the_maps t ls h.stand m is)
 
 -- the marks that are computed, of ends and arcs as the code has them
-pub table_made : (arcs seen again : List (List Pos)) (ls : List LayerParts) (ends : List Pos) (free marks : List Bool) →
-    ends ≡ gathered (line_ends seen) (layers_lines ls) → seen ≡ arcs → again ≡ arcs →
+pub table_made : (arcs again : List (List Pos)) (ls : List LayerParts) (ends : List Pos) (free marks : List Bool) →
+    ends ≡ gathered (line_ends arcs) (layers_lines ls) → again ≡ arcs →
     free ≡ map_list (goes_free (ends ++ gathered ends_once again)) again → marks ≡ free → table_read arcs marks ≡ table_of arcs ls
-table_made arcs seen again ls ends free marks e s a f m =
-    ap (table_read arcs)
-    (m ∙ f ∙ (λ i. map_list (goes_free (e i ++ gathered ends_once (a i))) (a i))
-    ∙ ap (λ w. map_list (goes_free (gathered (line_ends w) (layers_lines ls) ++ gathered ends_once arcs)) arcs) s)
+table_made arcs again ls ends free marks e a f m =
+    ap (table_read arcs) (m ∙ f ∙ (λ i. map_list (goes_free (e i ++ gathered ends_once (a i))) (a i)))
 
 -- where the lists don't stand, nothing does
 pub lists_decide : (t : Arcs) (ls : List LayerParts) (b : Bool) → (b ≡ true) ↔ AreValidLists t (layers_lines ls) (layers_rings ls) → b ≡ false → (false ≡ true) ↔ AreValidInOrder t ls

@@ -5,8 +5,8 @@ use Rattle.validate.proofs.accept.topology.table_of.Goals as goal
 
 pub returns : goal.returns
 returns c =
-    let is : c.in-Some.table ≡ table_read c.args.arcs.items c.deref-3.result.now =
-    subst (λ o. IfSome o (λ t. t ≡ table_read c.args.arcs.items c.deref-3.result.now)) c.in-Some.is c.in_ok-table.ensures.table in
+    let is : c.in-Some.table ≡ table_read c.args.arcs.items c.deref-2.result.now =
+    subst (λ o. IfSome o (λ t. t ≡ table_read c.args.arcs.items c.deref-2.result.now)) c.in-Some.is c.in_ok-table.ensures.table in
     is
-    ∙ table_made c.args.arcs.items c.deref.result.now c.deref-2.result.now c.args.layers.now c.in_ok-ends.ends.items c.in_ok-free.free.items c.deref-3.result.now
-    c.in_ok-ends.ensures.ends c.deref.ensures.value c.deref-2.ensures.value c.in_ok-free.ensures.marks c.deref-3.ensures.value
+    ∙ table_made c.args.arcs.items c.deref.result.now c.args.layers.now c.in_ok-ends.ends.items c.in_ok-free.free.items c.deref-2.result.now
+    c.in_ok-ends.ensures.ends c.deref.ensures.value c.in_ok-free.ensures.marks c.deref-2.ensures.value
