@@ -1,7 +1,7 @@
 //! Walks along arcs that go on from one another.
 ghost use Rattle.split_heal.specs.PseudoNodes.{partner_in};
 ghost use Rattle.split_heal.specs.Walks.{Adds, AddsBegun, AddsSingle, ArePaired, AreRuns, AreWalked, EndsGone, Goes, GoesOn, Walk, count_left, some_one};
-ghost use Rattle.std.specs.Prelude.{◌≡◌, ◌≤◌, ◌+◌, IfOk, OnOk, List, Bool};
+ghost use Rattle.std.specs.Prelude.{◌≤◌, ◌+◌, IfOk, OnOk, List, Bool};
 ghost use Rattle.theory.specs.ArcNumbers as numbers;
 
 use crate::arc_run::ArcRun;

@@ -1,10 +1,10 @@
 -- Lists of used arcs run on exactly where their ends say so.
-use Rattle.std.proofs.Common.{◌≡◌, ◌-◌, Bool, true, false, cond, List, [], ◌∷◌, length, reverse, refl, sym, ap, ◌∙◌, subst, arith, Option, Some, None, slice_get, option_map}
+use Rattle.std.proofs.Common.{◌≡◌, Bool, true, false, cond, List, [], ◌∷◌, refl, sym, ap, ◌∙◌, subst, Option, Some, None}
 use Rattle.grid.specs.declared.pos.Pos.{Pos}
 use Rattle.lines.specs.Pairs.{position_eq}
 use Rattle.lines.proofs.Positions.{position_refl, position_true}
-use Rattle.theory.specs.ArcNumbers.{ArcRef, along}
-use Rattle.theory.specs.Lists.{front_of, last_of}
+use Rattle.theory.specs.ArcNumbers.{ArcRef}
+use Rattle.theory.specs.Lists.{last_of}
 use Rattle.theory.specs.Validity.{Runs}
 use Rattle.arcs.specs.Ends.{ends_along, first_end}
 use Rattle.arcs.proofs.EndsAlong.{ends_run, run_ends}
