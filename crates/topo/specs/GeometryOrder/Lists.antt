@@ -45,9 +45,11 @@ steps_cmp = slice_cmp (option_cmp step_cmp)
 abbrev pub starts_cmp : List (List Pos) → List ArcRef → List ArcRef → Ordering
 starts_cmp arcs us vs = steps_cmp (line_key arcs us) (line_key arcs vs)
 
+-- two lines, by the steps along their arcs
 abbrev pub line_refs_cmp : List (List Pos) → List (Option LeastSteps) → List ArcRef → List ArcRef → Ordering
 line_refs_cmp arcs least us vs = starts_cmp arcs us vs
 
+-- two rings, by what they are sorted by
 abbrev pub ring_refs_cmp : List (List Pos) → List (Option LeastSteps) → List ArcRef → List ArcRef → Ordering
 ring_refs_cmp arcs least us vs = steps_cmp (ring_key arcs least us) (ring_key arcs least vs)
 
