@@ -21,7 +21,7 @@ pub mod Halting
 pub mod NetworkMaps
 pub mod ChosenArcs
 pub mod Counting
-pub mod LeastSteps
+pub mod PartedAt
 pub mod Turns
 pub mod Texts
 pub mod OfLayer

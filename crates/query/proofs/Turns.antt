@@ -20,9 +20,11 @@ use Rattle.theory.specs.Lists.{Steps, front_of, last_of}
 use Rattle.theory.specs.TopologyFunction.{least_list, rotations}
 use Rattle.theory.proofs.Lists.{append_cancel, front-snoc, front_last}
 use Rattle.theory.proofs.Rotations.{rotation_back, rotation_trans, rotation_ring}
-use Rattle.query.specs.Steps.{step, step_cmp, least_from, least_step, behind_step, up_to_step}
-use Rattle.query.specs.declared.layer_text.steps.GridStep.{GridStep}
-use Rattle.query.proofs.LeastSteps.{IsLeast, IsParted, least_steps, parted, step_total}
+use Rattle.arcs.proofs.Steps.{IsLeastFrom, least_is as least_along, step_total}
+use Rattle.arcs.specs.Steps.{step, step_cmp, least_from}
+use Rattle.query.specs.Steps.{least_step, behind_step, up_to_step}
+use Rattle.arcs.specs.declared.step.Step.{Step}
+use Rattle.query.proofs.PartedAt.{IsParted, parted}
 
 -- the order of two steps is that of the lists of their positions
 then_nothing : (r : Ordering) → ordering_then r Equal ≡ r
@@ -35,7 +37,7 @@ less_not_most r Less e h = ap is_lt e
 less_not_most r Equal e h = ap is_lt e
 less_not_most r Greater e h = absurd cc
 
-not_before : (m : GridStep) (u v : Pos) → AtMost step_cmp m (step u v) → is_lt (slice_cmp position_cmp (u ∷ (v ∷ [])) (m.from ∷ (m.to ∷ []))) ≡ false
+not_before : (m : Step) (u v : Pos) → AtMost step_cmp m (step u v) → is_lt (slice_cmp position_cmp (u ∷ (v ∷ [])) (m.from ∷ (m.to ∷ []))) ≡ false
 not_before m u v h =
     ap (λ r. is_lt (ordering_then (position_cmp u m.from) r)) (then_nothing (position_cmp v m.to))
     ∙ less_not_most (step_cmp (step u v) m) (step_cmp m (step u v)) (step_total.antisymm (step u v) m) h
@@ -61,11 +63,11 @@ snoc_same a b x y e =
     (f, one_head x y (append_cancel b (x ∷ []) (y ∷ []) (ap (λ w. w ++ (x ∷ [])) (sym f) ∙ e)))
 
 -- a list begun at a step that stands in it
-abbrev pub begun_at : GridStep → List Pos → List Pos
+abbrev pub begun_at : Step → List Pos → List Pos
 begun_at s w = s.from ∷ (s.to ∷ (behind_step s w ++ up_to_step s w))
 
 -- how the closed list of a ring is begun at its least step
-pub record IsBegun (f : List Pos) (s : GridStep) (r : List Pos) : Type 0 where
+pub record IsBegun (f : List Pos) (s : Step) (r : List Pos) : Type 0 where
   pub rotation : IsRotation f r
   pub begun : begun_at s (closed f) ≡ closed r
   pub least : (m : List Pos) → IsRotation f m → AtMost (slice_cmp position_cmp) r m
@@ -74,7 +76,7 @@ take_seam : (a b : List Pos) → take (length a) (a ++ b) ≡ a
 take_seam [] b = refl
 take_seam (x ∷ a) b = ap (λ w. x ∷ w) (take_seam a b)
 
-begun : (x : Pos) (l : List Pos) (m : GridStep) → IsRing (x ∷ l) → Steps m.from m.to (closed (x ∷ l)) →
+begun : (x : Pos) (l : List Pos) (m : Step) → IsRing (x ∷ l) → Steps m.from m.to (closed (x ∷ l)) →
     ((u v : Pos) → Steps u v (closed (x ∷ l)) → AtMost step_cmp m (step u v)) → (r : List Pos) × IsBegun (x ∷ l) m r
 begun x l m ring there least = (r, record { rotation = turned; begun = is; least = first })
   where
@@ -139,7 +141,7 @@ begun x l m ring there least = (r, record { rotation = turned; begun = is; least
 
 -- the least step along the closed list of a ring
 pub record IsTurnedBack (r f : List Pos) : Type 0 where
-  pub least : GridStep
+  pub least : Step
   pub is : least_step (closed f) ≡ Some least
   pub begun : begun_at least (closed f) ≡ closed r
 
@@ -152,15 +154,18 @@ turned_back r f q = go f (rotation_ring (vertices_of r) f q r.ring) q
     go (x ∷ []) k q = absurd (let n : 3 ≤ 1 = k.long in omega arith)
     go (x ∷ (y ∷ l)) k q = record { least = m; is = refl; begun = b.1.begun ∙ ap closed same }
       where
-        m : GridStep
-        m = least_from (step x y) y (l ++ (x ∷ []))
+        m : Step
+        m = least_from step (step x y) y (l ++ (x ∷ []))
 
-        t : IsLeast (step x y) (y ∷ (l ++ (x ∷ []))) m
-        t = least_steps (step x y) y (l ++ (x ∷ []))
+        t : IsLeastFrom step (step x y) (y ∷ (l ++ (x ∷ []))) m
+        t = least_along step (step x y) y (l ++ (x ∷ []))
 
         b : (p : List Pos) × IsBegun (x ∷ (y ∷ l)) m p
         b =
-            begun x (y ∷ l) m k (elim t.found [ inl e ↦ inl (ap (λ w. w.from) e, ap (λ w. w.to) e) | inr h ↦ inr h ])
+            begun x (y ∷ l) m k (elim t.found [
+              | inl e ↦ inl (ap (λ w. w.from) e, ap (λ w. w.to) e)
+              | inr h ↦ inr (subst (λ w. Steps w.from w.to (y ∷ (l ++ (x ∷ [])))) (sym h.3) h.2)
+            ])
             (λ u v h. elim h [
               | inl e ↦ let s : step x y ≡ step u v = (λ i. step (sym e.0 i) (sym e.1 i)) in subst (λ w. AtMost step_cmp m w) s t.first
               | inr e ↦ t.all u v e
