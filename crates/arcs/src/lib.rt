@@ -23,6 +23,6 @@ pub mod writing;
 pub use arc_marks::ArcMarks;
 pub use arcs_box::Extent;
 pub use piece::Piece;
-pub use step::Step;
+pub use step::ArcStep;
 pub use table::{ArcRef, ArcTable};
 pub use turning::turn_ring;

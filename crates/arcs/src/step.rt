@@ -7,31 +7,31 @@ use grid::pos::Pos;
 
 /// A step from a position to the next one. Ordered by where it begins, then by where it ends.
 #[derive(Clone, Copy, PartialEq, Eq, PartialOrd, Ord, Debug)]
-pub struct Step {
+pub struct ArcStep {
     pub from: Pos,
     pub to: Pos,
 }
 
-impl Step {
+impl ArcStep {
     /// The first step along a list; `None` where it has fewer than two positions.
-    pub fn first_along(positions: &[Pos]) -> Option<Step>
+    pub fn first_along(positions: &[Pos]) -> Option<ArcStep>
         ensures { result ≡ first_of positions.now }
     {
         let (from, others) = positions.split_first()?;
         let to = others.first()?;
-        Some(Step {
+        Some(ArcStep {
             from: *from,
             to: *to,
         })
     }
 
     /// The first step against a list; `None` where it has fewer than two positions.
-    pub fn first_against(positions: &[Pos]) -> Option<Step>
+    pub fn first_against(positions: &[Pos]) -> Option<ArcStep>
         ensures { result ≡ first_of (reverse positions.now) }
     {
         let (from, others) = positions.split_last()?;
         let to = others.last()?;
-        Some(Step {
+        Some(ArcStep {
             from: *from,
             to: *to,
         })
@@ -40,14 +40,14 @@ impl Step {
 
 impl ArcTable {
     /// The first step along a used arc; `None` where no arc has its number, or it has fewer than two positions.
-    pub fn first_step(&self, used: ArcRef) -> Option<Step>
+    pub fn first_step(&self, used: ArcRef) -> Option<ArcStep>
         ensures { result ≡ step_along self.now.arcs used }
     {
         let positions = self.arc(used.arc)?;
         if used.reversed {
-            Step::first_against(positions)
+            ArcStep::first_against(positions)
         } else {
-            Step::first_along(positions)
+            ArcStep::first_along(positions)
         }
     }
 }

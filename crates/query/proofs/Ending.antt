@@ -3,17 +3,17 @@ use Rattle.std.proofs.Common.{◌≡◌, ◌↔◌, ◌⊎◌, inl, inr, ℕ, Li
 use Rattle.grid.specs.declared.pos.Pos.{Pos}
 use Rattle.theory.specs.Lists.{BeginsTwo}
 use Rattle.topo.specs.Points.{arc_at}
-use Rattle.arcs.specs.declared.step.Step.{Step}
+use Rattle.arcs.specs.declared.step.ArcStep.{ArcStep}
 use Rattle.arcs.specs.Steps.{first_of}
 use Rattle.query.specs.Ends.{AmongEnds, EndStep, IsEnd, OnEnds}
 use Rattle.chains.proofs.Stepping.{first_put, behind_first, step_on, all_put}
 
-among_put : (v w : Pos) (es : List Step) (e : Step) → AmongEnds v w (es ++ (e ∷ [])) ↔ (AmongEnds v w es ⊎ IsEnd v w (Some e))
+among_put : (v w : Pos) (es : List ArcStep) (e : ArcStep) → AmongEnds v w (es ++ (e ∷ [])) ↔ (AmongEnds v w es ⊎ IsEnd v w (Some e))
 among_put v w [] e = first_put (IsEnd v w (Some e))
 among_put v w (d ∷ es) e = behind_first (IsEnd v w (Some d)) (AmongEnds v w es) (AmongEnds v w (es ++ (e ∷ []))) (IsEnd v w (Some e)) (among_put v w es e)
 
 -- one end more
-pub put_end : (es new : List Step) (end : Option Step) (e : Step) → end ≡ Some e → new ≡ es ++ (e ∷ []) → (v w : Pos) →
+pub put_end : (es new : List ArcStep) (end : Option ArcStep) (e : ArcStep) → end ≡ Some e → new ≡ es ++ (e ∷ []) → (v w : Pos) →
     AmongEnds v w new ↔ (AmongEnds v w es ⊎ IsEnd v w end)
 put_end es new end e is put v w =
     let r = among_put v w es e in (
@@ -27,7 +27,7 @@ begin_two (x ∷ []) v w = ((λ h. absurd h), (λ h. h.1))
 begin_two (x ∷ (y ∷ r)) v w = ((λ h. h), (λ h. h))
 
 -- both ends of an arc
-pub two_ends : {A E : Type 0} (r : Result A E) (old mid new : List Step) (arc : List Pos) (first last : Option Step) →
+pub two_ends : {A E : Type 0} (r : Result A E) (old mid new : List ArcStep) (arc : List Pos) (first last : Option ArcStep) →
     first ≡ first_of arc → last ≡ first_of (reverse arc) → ((v w : Pos) → AmongEnds v w mid ↔ (AmongEnds v w old ⊎ IsEnd v w first)) →
     OnOk r ((v w : Pos) → AmongEnds v w new ↔ (AmongEnds v w mid ⊎ IsEnd v w last)) →
     OnOk r ((v w : Pos) → AmongEnds v w new ↔ (AmongEnds v w old ⊎ EndStep v w arc))
@@ -47,7 +47,7 @@ two_ends (Ok a) old mid new arc first last f l one two = λ v w. (
 )
 
 -- the ends of one arc more
-pub step_ends : (old new : List Step) (arcs : List (List Pos)) (k : ℕ) (ks rest : List ℕ) (All : Type 0) (v w : Pos) → ks ≡ k ∷ rest →
+pub step_ends : (old new : List ArcStep) (arcs : List (List Pos)) (k : ℕ) (ks rest : List ℕ) (All : Type 0) (v w : Pos) → ks ≡ k ∷ rest →
     AmongEnds v w new ↔ (AmongEnds v w old ⊎ EndStep v w (arc_at arcs k)) → (AmongEnds v w old ⊎ OnEnds arcs ks v w) ↔ All →
     (AmongEnds v w new ⊎ OnEnds arcs rest v w) ↔ All
 step_ends old new arcs k ks rest All v w e put left =
@@ -55,5 +55,5 @@ step_ends old new arcs k ks rest All v w e put left =
     (subst (λ l. OnEnds arcs l v w) e) (subst (λ l. OnEnds arcs l v w) (sym e)) put left
 
 -- nothing is left
-pub done_ends : (es : List Step) (arcs : List (List Pos)) (ks : List ℕ) (All : Type 0) (v w : Pos) → ks ≡ [] → (AmongEnds v w es ⊎ OnEnds arcs ks v w) ↔ All → AmongEnds v w es ↔ All
+pub done_ends : (es : List ArcStep) (arcs : List (List Pos)) (ks : List ℕ) (All : Type 0) (v w : Pos) → ks ≡ [] → (AmongEnds v w es ⊎ OnEnds arcs ks v w) ↔ All → AmongEnds v w es ↔ All
 done_ends es arcs ks All v w e left = all_put (AmongEnds v w es) (OnEnds arcs ks v w) All (λ k. subst (λ l. OnEnds arcs l v w) e k) left

@@ -20,7 +20,7 @@ use Rattle.arcs.specs.Table.{IsTableOf}
 use Rattle.lines.proofs.Positions.{position_apart, position_decide, position_true, tied_position, true_false, true_position}
 use Rattle.lines.proofs.ByVertex.{behind_at, here_at, sorted_stand, stand_behind}
 use Rattle.lines.proofs.SortedLists.{Has-permutation}
-use Rattle.arcs.specs.declared.step.Step.{Step}
+use Rattle.arcs.specs.declared.step.ArcStep.{ArcStep}
 use Rattle.query.specs.declared.stops.Sides.{Sides}
 use Rattle.query.specs.declared.stops.Sides.TheVariants.{One, Two, More}
 use Rattle.arcs.specs.Steps.{step}
@@ -59,11 +59,11 @@ Means-sided (Two a b) H n h = go (position_eq a n) refl (position_eq b n) refl
 Means-sided More H n h = (h.0, h.1, h.2, inr h.3, inr h.4, inr h.5, h.6, h.7, h.8)
 
 -- p is beside the vertex of one of the ends
-abbrev IsSideOf : Pos → List Step → Type 0
+abbrev IsSideOf : Pos → List ArcStep → Type 0
 IsSideOf p [] = ⊥
 IsSideOf p (e ∷ es) = (p ≡ e.to) ⊎ IsSideOf p es
 
-Means-all : (s : Sides) (H : Pos → Type 0) (es : List Step) → Means s H → Means (sided_all s es) (λ p. IsSideOf p es ⊎ H p)
+Means-all : (s : Sides) (H : Pos → Type 0) (es : List ArcStep) → Means s H → Means (sided_all s es) (λ p. IsSideOf p es ⊎ H p)
 Means-all s H [] h = Means-iff s H (λ p. ⊥ ⊎ H p) (λ p k. inr k) (λ p k. elim k [ inl z ↦ absurd z | inr f ↦ f ]) h
 Means-all s H (e ∷ es) h =
     Means-iff (sided_all (sided s e.to) es) (λ p. IsSideOf p es ⊎ ((p ≡ e.to) ⊎ H p)) (λ p. IsSideOf p (e ∷ es) ⊎ H p)
@@ -71,18 +71,18 @@ Means-all s H (e ∷ es) h =
     (λ p k. elim k [ inl f ↦ elim f [ inl i ↦ inr (inl i) | inr i ↦ inl i ] | inr f ↦ inr (inr f) ])
     (Means-all (sided s e.to) (λ p. (p ≡ e.to) ⊎ H p) es (Means-sided s H e.to h))
 
-side_has : (v w : Pos) (es : List Step) → ((x : Step) → Has x es → x.from ≡ v) → IsSideOf w es → Has (step v w) es
+side_has : (v w : Pos) (es : List ArcStep) → ((x : ArcStep) → Has x es → x.from ≡ v) → IsSideOf w es → Has (step v w) es
 side_has v w [] at h = absurd h
 side_has v w (e ∷ es) at (inl k) = let here = at e (inl refl) in inl (λ i. record { from = sym here i; to = k i })
 side_has v w (e ∷ es) at (inr h) = inr (side_has v w es (λ x i. at x (inr i)) h)
 
-has_side : (v w : Pos) (es : List Step) → Has (step v w) es → IsSideOf w es
+has_side : (v w : Pos) (es : List ArcStep) → Has (step v w) es → IsSideOf w es
 has_side v w [] h = absurd h
 has_side v w (e ∷ es) (inl k) = inl (ap (λ z. z.to) k)
 has_side v w (e ∷ es) (inr h) = inr (has_side v w es h)
 
 -- what is told of the ends at one vertex
-Means-here : (first : Step) (here : List Step) → ((x : Step) → Has x (first ∷ here) → x.from ≡ first.from) →
+Means-here : (first : ArcStep) (here : List ArcStep) → ((x : ArcStep) → Has x (first ∷ here) → x.from ≡ first.from) →
     Means (sides_at first here) (λ w. Has (step first.from w) (first ∷ here))
 Means-here first here at =
     Means-iff (sides_at first here) (λ p. IsSideOf p here ⊎ (p ≡ first.to)) (λ w. Has (step first.from w) (first ∷ here))
@@ -91,14 +91,14 @@ Means-here first here at =
     (Means-all (One first.to) (λ p. p ≡ first.to) here (refl, λ p k. k))
 
 -- the vertices of the ends before these are judged
-pub record Judging (ends left : List Step) (stops : List Pos) : Type 0 where
-  pub done : List Step
+pub record Judging (ends left : List ArcStep) (stops : List Pos) : Type 0 where
+  pub done : List ArcStep
   pub is : ends ≡ done ++ left
   pub stand : StandByVertex vertex_of left
-  pub other : (x y : Step) → Has x done → Has y left → ¬ (x.from ≡ y.from)
+  pub other : (x y : ArcStep) → Has x done → Has y left → ¬ (x.from ≡ y.from)
   pub judged : AreJudged done stops
 
-pub judging_starts : (ends : List Step) (stops : List Pos) → stops ≡ [] → StandByVertex vertex_of ends → Judging ends ends stops
+pub judging_starts : (ends : List ArcStep) (stops : List Pos) → stops ≡ [] → StandByVertex vertex_of ends → Judging ends ends stops
 judging_starts ends stops e g = record {
   done = [];
   is = refl;
@@ -107,22 +107,22 @@ judging_starts ends stops e g = record {
   judged = λ v. inl ((λ w h. h), ap (λ l. among l v) e);
 }
 
-pub judging_over : (ends left : List Step) (stops : List Pos) → left ≡ [] → Judging ends left stops → AreJudged ends stops
+pub judging_over : (ends left : List ArcStep) (stops : List Pos) → left ≡ [] → Judging ends left stops → AreJudged ends stops
 judging_over ends left stops e p v =
     subst (λ es. IsJudged es v (among stops v)) (sym (p.is ∙ ap (λ w. p.done ++ w) e ∙ append-nil p.done)) (p.judged v)
 
 -- the ends at one vertex: the first of those that are left, and those that follow it there
-module _ (ends : List Step) (first : Step) (here behind : List Step) (stops new : List Pos) (p : Judging ends (first ∷ (here ++ behind)) stops)
-    (at : (x : Step) → Has x here → x.from ≡ first.from) (past : (x : Step) → Has x behind → ¬ (x.from ≡ first.from))
+module _ (ends : List ArcStep) (first : ArcStep) (here behind : List ArcStep) (stops new : List Pos) (p : Judging ends (first ∷ (here ++ behind)) stops)
+    (at : (x : ArcStep) → Has x here → x.from ≡ first.from) (past : (x : ArcStep) → Has x behind → ¬ (x.from ≡ first.from))
     (made : (q : Pos) → among new q ≡ stop_step (halts (sides_at first here)) q (among stops q) first.from) where
-  at_first : (x : Step) → Has x (first ∷ here) → x.from ≡ first.from
+  at_first : (x : ArcStep) → Has x (first ∷ here) → x.from ≡ first.from
   at_first x (inl e) = ap (λ w. w.from) e
   at_first x (inr h) = at x h
 
-  in_behind : (x : Step) → Has x behind → Has x (first ∷ (here ++ behind))
+  in_behind : (x : ArcStep) → Has x behind → Has x (first ∷ (here ++ behind))
   in_behind x h = inr (Has-append_right x here behind h)
 
-  abbrev now : List Step
+  abbrev now : List ArcStep
   now = p.done ++ (first ∷ here)
 
   -- at its vertex no end stood before
@@ -181,7 +181,7 @@ module _ (ends : List Step) (first : Step) (here behind : List Step) (stops new 
   }
 
 -- in the form of the code
-pub judging_step : (ends left others : List Step) (first : Step) (n : ℕ) (here behind : List Step) (s : Sides) (stops new : List Pos) → left ≡ first ∷ others → n ≡ count_at vertex_of first.from others →
+pub judging_step : (ends left others : List ArcStep) (first : ArcStep) (n : ℕ) (here behind : List ArcStep) (s : Sides) (stops new : List Pos) → left ≡ first ∷ others → n ≡ count_at vertex_of first.from others →
     here ≡ take n others → behind ≡ drop n others → s ≡ sides_at first here → ((q : Pos) → among new q ≡ stop_step (halts s) q (among stops q) first.from) →
     Judging ends left stops → Judging ends behind new
 judging_step ends left others first n here behind s stops new l c h b is made p =
@@ -198,7 +198,7 @@ two_only S v t (inl o) = t.2 (o.2 t.0 t.3 ∙ sym (o.2 t.1 t.4))
 two_only S v t (inr o) = three_in_two S v t o
 
 -- the segments S at a vertex where arcs end are those of the ends, and each other vertex lies on two
-module _ (S : Pos → Pos → Type 0) (ends : List Step) (stops : List Pos)
+module _ (S : Pos → Pos → Type 0) (ends : List ArcStep) (stops : List Pos)
     (on : (v w : Pos) → Has (step v w) ends → S v w) (all : (v p w : Pos) → Has (step v p) ends → S v w → Has (step v w) ends)
     (others : (v w : Pos) → S v w → Has (step v w) ends ⊎ OnTwo S v) (judged : AreJudged ends stops) where
   -- a vertex that is no stop lies on two segments
@@ -266,18 +266,18 @@ stop_put keys new b v q h e =
 pub stop_left : (keys : List Pos) (b : Bool) (v q : Pos) → b ≡ false → among keys q ≡ stop_step b q (among keys q) v
 stop_left keys b v q h = sym (ap (λ a. cond a (cond (is_eq (position_cmp v q)) true (among keys q)) (among keys q)) h)
 
-among_has : (v w : Pos) (es : List Step) → AmongEnds v w es → Has (step v w) es
+among_has : (v w : Pos) (es : List ArcStep) → AmongEnds v w es → Has (step v w) es
 among_has v w [] h = absurd h
 among_has v w (e ∷ es) (inl k) = inl (λ i. record { from = k.0 i; to = k.1 i })
 among_has v w (e ∷ es) (inr h) = inr (among_has v w es h)
 
-has_among : (v w : Pos) (es : List Step) → Has (step v w) es → AmongEnds v w es
+has_among : (v w : Pos) (es : List ArcStep) → Has (step v w) es → AmongEnds v w es
 has_among v w [] h = absurd h
 has_among v w (e ∷ es) (inl k) = inl (ap (λ z. z.from) k, ap (λ z. z.to) k)
 has_among v w (e ∷ es) (inr h) = inr (has_among v w es h)
 
 -- the stops that are noted at the ends of arcs of a map
-are_halts : (g : Geometry Pos) → IsSound g → (t : Arcs) → IsTableOf g t → (ks : List ℕ) (ends sorted : List Step) → HasEnds t.arcs ks ends → IsPermutation ends sorted →
+are_halts : (g : Geometry Pos) → IsSound g → (t : Arcs) → IsTableOf g t → (ks : List ℕ) (ends sorted : List ArcStep) → HasEnds t.arcs ks ends → IsPermutation ends sorted →
     (stops : List Pos) → AreJudged sorted stops → AreHalts t.arcs ks stops
 are_halts g sound t table ks ends sorted has moved stops judged = record {
   exact = λ v. (stops_lie (OnArcs t.arcs ks) sorted stops on all others judged v, lies_stop (OnArcs t.arcs ks) sorted stops on all others judged v);
@@ -300,7 +300,7 @@ are_halts g sound t table ks ends sorted has moved stops judged = record {
     others v w s = elim (end_or_two g sound t table ks v w s) [ inl h ↦ inl (to v w ((has v w).1 h)) | inr h ↦ inr h ]
 
 -- in the form of the code
-pub stops_told : {E : Type 0} (t : Arcs) (ks : List ℕ) (ends sorted slice : List Step) (r : Result (Vec Pos) E) →
+pub stops_told : {E : Type 0} (t : Arcs) (ks : List ℕ) (ends sorted slice : List ArcStep) (r : Result (Vec Pos) E) →
     HasEnds t.arcs ks ends → IsPermutation ends sorted → IsSorted by_vertex sorted → slice ≡ sorted → IfOk r (λ s. StandByVertex vertex_of slice → AreJudged slice s.items) →
     IfOk r (λ s. (g : Geometry Pos) → IsSound g → IsTableOf g t → AreHalts t.arcs ks s.items)
 stops_told t ks ends sorted slice (Ok s) has moved order e judged = λ g sound table.

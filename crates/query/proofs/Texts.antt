@@ -25,7 +25,7 @@ use Rattle.topo.specs.declared.geom.Geom.{Geom}
 use Rattle.topo.proofs.Walks.{walked_stitched}
 use Rattle.query.specs.ByArcs.{turned_at, line_along, ring_along, body_text, geom_text}
 use Rattle.query.specs.Steps.{least_step, behind_step, up_to_step}
-use Rattle.arcs.specs.declared.step.Step.{Step}
+use Rattle.arcs.specs.declared.step.ArcStep.{ArcStep}
 use Rattle.query.proofs.Turns.{begun_at, turned_back}
 
 -- ---- lists whose members have the same texts, index by index
@@ -55,7 +55,7 @@ commas_append f (x ∷ xs) ys = ap (λ w. after_comma f x ++ w) (commas_append f
 line_same : (t : TopologyParts) (l : List Pos) (used : List ArcRef) → StitchTo t.arcs.arcs used l → line_text t.grid l ≡ line_along t used
 line_same t l used h = ap (list_text (place_text t.grid)) (sym (walked_stitched t.arcs.arcs used l h))
 
-begun_text : (g : Transform) (s : Step) (w : List Pos) → turned_at g w (Some s) ≡ joined (place_text g) (begun_at s w)
+begun_text : (g : Transform) (s : ArcStep) (w : List Pos) → turned_at g w (Some s) ≡ joined (place_text g) (begun_at s w)
 begun_text g s w =
     let behind : List ℕ = after_commas (place_text g) (behind_step s w) in
     let up_to : List ℕ = after_commas (place_text g) (up_to_step s w) in

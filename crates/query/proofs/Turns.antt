@@ -23,7 +23,7 @@ use Rattle.theory.proofs.Rotations.{rotation_back, rotation_trans, rotation_ring
 use Rattle.arcs.proofs.Steps.{IsLeastFrom, least_is as least_along, step_total}
 use Rattle.arcs.specs.Steps.{step, step_cmp, least_from}
 use Rattle.query.specs.Steps.{least_step, behind_step, up_to_step}
-use Rattle.arcs.specs.declared.step.Step.{Step}
+use Rattle.arcs.specs.declared.step.ArcStep.{ArcStep}
 use Rattle.query.proofs.PartedAt.{IsParted, parted}
 
 -- the order of two steps is that of the lists of their positions
@@ -37,7 +37,7 @@ less_not_most r Less e h = ap is_lt e
 less_not_most r Equal e h = ap is_lt e
 less_not_most r Greater e h = absurd cc
 
-not_before : (m : Step) (u v : Pos) → AtMost step_cmp m (step u v) → is_lt (slice_cmp position_cmp (u ∷ (v ∷ [])) (m.from ∷ (m.to ∷ []))) ≡ false
+not_before : (m : ArcStep) (u v : Pos) → AtMost step_cmp m (step u v) → is_lt (slice_cmp position_cmp (u ∷ (v ∷ [])) (m.from ∷ (m.to ∷ []))) ≡ false
 not_before m u v h =
     ap (λ r. is_lt (ordering_then (position_cmp u m.from) r)) (then_nothing (position_cmp v m.to))
     ∙ less_not_most (step_cmp (step u v) m) (step_cmp m (step u v)) (step_total.antisymm (step u v) m) h
@@ -63,11 +63,11 @@ snoc_same a b x y e =
     (f, one_head x y (append_cancel b (x ∷ []) (y ∷ []) (ap (λ w. w ++ (x ∷ [])) (sym f) ∙ e)))
 
 -- a list begun at a step that stands in it
-abbrev pub begun_at : Step → List Pos → List Pos
+abbrev pub begun_at : ArcStep → List Pos → List Pos
 begun_at s w = s.from ∷ (s.to ∷ (behind_step s w ++ up_to_step s w))
 
 -- how the closed list of a ring is begun at its least step
-pub record IsBegun (f : List Pos) (s : Step) (r : List Pos) : Type 0 where
+pub record IsBegun (f : List Pos) (s : ArcStep) (r : List Pos) : Type 0 where
   pub rotation : IsRotation f r
   pub begun : begun_at s (closed f) ≡ closed r
   pub least : (m : List Pos) → IsRotation f m → AtMost (slice_cmp position_cmp) r m
@@ -76,7 +76,7 @@ take_seam : (a b : List Pos) → take (length a) (a ++ b) ≡ a
 take_seam [] b = refl
 take_seam (x ∷ a) b = ap (λ w. x ∷ w) (take_seam a b)
 
-begun : (x : Pos) (l : List Pos) (m : Step) → IsRing (x ∷ l) → Steps m.from m.to (closed (x ∷ l)) →
+begun : (x : Pos) (l : List Pos) (m : ArcStep) → IsRing (x ∷ l) → Steps m.from m.to (closed (x ∷ l)) →
     ((u v : Pos) → Steps u v (closed (x ∷ l)) → AtMost step_cmp m (step u v)) → (r : List Pos) × IsBegun (x ∷ l) m r
 begun x l m ring there least = (r, record { rotation = turned; begun = is; least = first })
   where
@@ -141,7 +141,7 @@ begun x l m ring there least = (r, record { rotation = turned; begun = is; least
 
 -- the least step along the closed list of a ring
 pub record IsTurnedBack (r f : List Pos) : Type 0 where
-  pub least : Step
+  pub least : ArcStep
   pub is : least_step (closed f) ≡ Some least
   pub begun : begun_at least (closed f) ≡ closed r
 
@@ -154,7 +154,7 @@ turned_back r f q = go f (rotation_ring (vertices_of r) f q r.ring) q
     go (x ∷ []) k q = absurd (let n : 3 ≤ 1 = k.long in omega arith)
     go (x ∷ (y ∷ l)) k q = record { least = m; is = refl; begun = b.1.begun ∙ ap closed same }
       where
-        m : Step
+        m : ArcStep
         m = least_from step (step x y) y (l ++ (x ∷ []))
 
         t : IsLeastFrom step (step x y) (y ∷ (l ++ (x ∷ []))) m

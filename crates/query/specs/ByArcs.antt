@@ -4,7 +4,7 @@ use Rattle.grid.specs.Place.{Transform}
 use Rattle.grid.specs.declared.pos.Pos.{Pos}
 use Rattle.geojson_io.specs.CollectionText.{place_text, form_text, feature_frame}
 use Rattle.query.specs.Steps.{least_step, behind_step, up_to_step}
-use Rattle.arcs.specs.declared.step.Step.{Step}
+use Rattle.arcs.specs.declared.step.ArcStep.{ArcStep}
 use Rattle.shapes.specs.Parts.{properties_text}
 use Rattle.sinks.specs.Texts.{after_commas, joined, bracketed}
 use Rattle.theory.specs.ArcNumbers.{ArcRef}
@@ -22,7 +22,7 @@ abbrev pub places_along : TopologyParts → List ArcRef → List ℕ
 places_along t used = joined (place_text t.grid) (along t used)
 
 -- the places of a closed list, begun at its least step
-abbrev pub turned_at : Transform → List Pos → Option Step → List ℕ
+abbrev pub turned_at : Transform → List Pos → Option ArcStep → List ℕ
 turned_at g w None = []
 turned_at g w (Some s) =
     place_text g s.from ++ (codes "," ++ (place_text g s.to ++ (after_commas (place_text g) (behind_step s w) ++ after_commas (place_text g) (up_to_step s w))))

@@ -11,7 +11,7 @@ use Rattle.theory.specs.Lists.{Has}
 use Rattle.theory.specs.Segments.{TwoSegments}
 use Rattle.chains.specs.Along.{OnArcs}
 use Rattle.arcs.specs.Steps.{step}
-use Rattle.arcs.specs.declared.step.Step.{Step}
+use Rattle.arcs.specs.declared.step.ArcStep.{ArcStep}
 use Rattle.query.specs.declared.stops.Sides.{Sides}
 use Rattle.query.specs.declared.stops.Sides.TheVariants.{One, Two, More}
 
@@ -22,12 +22,12 @@ sided (Two a b) n = cond (position_eq a n) (Two a b) (cond (position_eq b n) (Tw
 sided More n = More
 
 -- and those of each of the ends in turn
-abbrev pub sided_all : Sides → List Step → Sides
+abbrev pub sided_all : Sides → List ArcStep → Sides
 sided_all s [] = s
 sided_all s (e ∷ es) = sided_all (sided s e.to) es
 
 -- the sides of the vertex of an end, where these are the others there
-abbrev pub sides_at : Step → List Step → Sides
+abbrev pub sides_at : ArcStep → List ArcStep → Sides
 sides_at e es = sided_all (One e.to) es
 
 -- whether lines stop there
@@ -47,11 +47,11 @@ Means (Two a b) H = (¬ (a ≡ b)) × H a × H b × ((p : Pos) → H p → (p �
 Means More H = (a : Pos) × (b : Pos) × (c : Pos) × H a × H b × H c × (¬ (a ≡ b)) × (¬ (a ≡ c)) × (¬ (b ≡ c))
 
 -- b says of v whether lines stop there: where no end is they don't
-abbrev pub IsJudged : List Step → Pos → Bool → Type 0
+abbrev pub IsJudged : List ArcStep → Pos → Bool → Type 0
 IsJudged es v b = (((w : Pos) → ¬ Has (step v w) es) × (b ≡ false)) ⊎ ((s : Sides) × Means s (λ w. Has (step v w) es) × (halts s ≡ b))
 
 -- the stops are the vertices of ends at which lines stop
-abbrev pub AreJudged : List Step → List Pos → Type 0
+abbrev pub AreJudged : List ArcStep → List Pos → Type 0
 AreJudged es stops = (v : Pos) → IsJudged es v (among stops v)
 
 -- v lies on exactly one of the segments

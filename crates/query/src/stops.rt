@@ -10,7 +10,7 @@ ghost use Rattle.std.specs.Prelude.{◌≡◌, ◌≤◌, IfOk, OnOk, length};
 ghost use Rattle.theory.specs.Geometry.{Geometry, IsSound};
 
 use crate::ends::ends_of;
-use arcs::{ArcTable, Step};
+use arcs::{ArcStep, ArcTable};
 use grid::pos::Pos;
 use std::alloc::{AllocError, Global};
 
@@ -47,7 +47,7 @@ fn with_side(sides: Sides, to: Pos) -> Sides
 }
 
 /// The sides of the vertex of an end and of the others there.
-fn sides_of(first: &Step, others: &[Step]) -> Sides
+fn sides_of(first: &ArcStep, others: &[ArcStep]) -> Sides
     ensures { result ≡ sides_at first.now others.now }
 {
     let mut sides = Sides::One(first.to);
@@ -69,7 +69,7 @@ fn is_stop(sides: Sides) -> bool
 }
 
 /// How many of the first ends are at a vertex.
-fn count_of(ends: &[Step], vertex: Pos) -> usize
+fn count_of(ends: &[ArcStep], vertex: Pos) -> usize
     ensures count { result ≡ count_at vertex_of vertex ends.now }
     ensures within { result ≤ length ends.now }
 {
@@ -93,7 +93,7 @@ fn add_stop(stops: &mut Vec<Pos>, vertex: Pos, sides: Sides) -> Result<(), Alloc
 }
 
 /// The vertices of ends, which are vertex by vertex, that do not lie on two segments.
-fn stops_by(alloc: Global, ends: &[Step]) -> Result<Vec<Pos>, AllocError>
+fn stops_by(alloc: Global, ends: &[ArcStep]) -> Result<Vec<Pos>, AllocError>
     ensures { IfOk result (λ s. StandByVertex vertex_of ends.now → AreJudged ends.now s.items) }
 {
     let mut stops = Vec::new(alloc);
@@ -106,7 +106,7 @@ fn stops_by(alloc: Global, ends: &[Step]) -> Result<Vec<Pos>, AllocError>
     Ok(stops)
 }
 
-fn sort_ends(ends: &mut Vec<Step>)
+fn sort_ends(ends: &mut Vec<ArcStep>)
     ensures permutation { IsPermutation ends.old.items ends.new.items }
     ensures sorted { IsSorted by_vertex ends.new.items }
 {

@@ -13,14 +13,14 @@ use Rattle.theory.specs.Geometry.{AtMost}
 use Rattle.theory.specs.Lists.{Has}
 use Rattle.theory.specs.Validity.{BeginsLeast}
 use Rattle.arcs.specs.Steps.{first_of, step, step_along, step_cmp}
-use Rattle.arcs.specs.declared.step.Step.{Step}
+use Rattle.arcs.specs.declared.step.ArcStep.{ArcStep}
 use Rattle.validate.specs.RingStarts.{before_if, none_starts, none_starts_if, starts_least}
 
-abbrev from_or : Pos → Option Step → Pos
+abbrev from_or : Pos → Option ArcStep → Pos
 from_or d None = d
 from_or d (Some s) = s.from
 
-abbrev to_or : Pos → Option Step → Pos
+abbrev to_or : Pos → Option ArcStep → Pos
 to_or d None = d
 to_or d (Some s) = s.to
 
@@ -100,7 +100,7 @@ module _ (arcs : List (List Pos)) (y z : Pos) where
       ap (λ b. cond b false (none_starts arcs (step y z) us)) (go (step_along arcs a) refl)
       ∙ told_starts us (record { first = λ b v w s i f. h.first b v w s (inr i) f; second = λ b v w s i f. h.second b v w s (inr i) f })
     where
-      go : (o : Option Step) → step_along arcs a ≡ o → before_if o (step y z) ≡ false
+      go : (o : Option ArcStep) → step_along arcs a ≡ o → before_if o (step y z) ≡ false
       go None e = refl
       go (Some s) e =
           let t = step_is arcs a s.from s.to e in
@@ -110,7 +110,7 @@ pub least_told : (arcs : List (List Pos)) (us : List ArcRef) → starts_least ar
 least_told arcs [] e = absurd cc
 least_told arcs (a ∷ us) e = go (step_along arcs a) refl e
   where
-    go : (o : Option Step) → step_along arcs a ≡ o → none_starts_if arcs o us ≡ true → BeginsLeast position_cmp arcs (a ∷ us)
+    go : (o : Option ArcStep) → step_along arcs a ≡ o → none_starts_if arcs o us ≡ true → BeginsLeast position_cmp arcs (a ∷ us)
     go None p e = absurd cc
     go (Some s) p e =
         let t = step_is arcs a s.from s.to p in

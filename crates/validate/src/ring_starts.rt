@@ -3,10 +3,10 @@ ghost use Rattle.validate.specs.RingStarts as spec;
 ghost use Rattle.arcs.specs.Steps.{step_along};
 ghost use Rattle.std.specs.Prelude.{◌≡◌};
 
-use arcs::Step;
+use arcs::ArcStep;
 use chains::table::{ArcRef, ArcTable};
 
-fn starts_before(table: &ArcTable, used: ArcRef, start: &Step) -> bool
+fn starts_before(table: &ArcTable, used: ArcRef, start: &ArcStep) -> bool
     ensures { result ≡ spec.before_if (step_along table.now.arcs used) start.now }
 {
     match table.first_step(used) {
@@ -15,7 +15,7 @@ fn starts_before(table: &ArcTable, used: ArcRef, start: &Step) -> bool
     }
 }
 
-fn none_starts(table: &ArcTable, start: &Step, refs: &[ArcRef]) -> bool
+fn none_starts(table: &ArcTable, start: &ArcStep, refs: &[ArcRef]) -> bool
     ensures { result ≡ spec.none_starts table.now.arcs start.now refs.now }
 {
     for used in refs {

@@ -7,7 +7,7 @@ ghost use Rattle.sinks.specs.Writes.{TookAll, TookPart};
 ghost use Rattle.std.specs.Prelude.{OnErr, OnOk};
 
 use crate::layer_text::steps::{behind, is_step, least_step};
-use arcs::{ArcRef, Step};
+use arcs::{ArcRef, ArcStep};
 use geojson_io::writer::{PlaceAfterComma, Places};
 use grid::{Grid, Pos};
 use sinks::written::{Noted, Text, Then, Written};
@@ -34,7 +34,7 @@ fn write_up_to<W: Sink>(
     grid: &Grid,
     mut here: Pos,
     mut walk: Walk,
-    step: Step,
+    step: ArcStep,
 ) -> Result<(), WriteFault>
     ensures whole { OnOk result (TookAll (W.seen sink.old) (W.seen sink.new) (after_commas (place_text grid.now) (up_to_from step here walk.entry))) }
     ensures part { OnErr result (TookPart (W.seen sink.old) (W.seen sink.new) (after_commas (place_text grid.now) (up_to_from step here walk.entry))) }
@@ -73,7 +73,7 @@ impl<'a> Written for Along<'a> {
 
 /// The places along used arcs behind a step, each after a comma.
 #[derive(Clone, Copy)]
-struct Behind<'a>(&'a Topology, &'a [ArcRef], Step);
+struct Behind<'a>(&'a Topology, &'a [ArcRef], ArcStep);
 
 impl<'a> Written for Behind<'a> {
     ghost text = { λ b. after_commas (place_text b.0.now.grid) (behind_step b.2 (along b.0.now b.1.now)) };
@@ -86,7 +86,7 @@ impl<'a> Written for Behind<'a> {
 
 /// The places along used arcs from the second up to a step, each after a comma.
 #[derive(Clone, Copy)]
-struct UpTo<'a>(&'a Topology, &'a [ArcRef], Step);
+struct UpTo<'a>(&'a Topology, &'a [ArcRef], ArcStep);
 
 impl<'a> Written for UpTo<'a> {
     ghost text = { λ u. after_commas (place_text u.0.now.grid) (up_to_step u.2 (along u.0.now u.1.now)) };

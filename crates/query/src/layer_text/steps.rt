@@ -3,26 +3,26 @@ ghost use Rattle.query.specs.Steps as spec;
 ghost use Rattle.query.specs.Steps.{behind_step};
 ghost use Rattle.std.specs.Prelude.{◌≡◌};
 
-use arcs::Step;
+use arcs::ArcStep;
 use grid::Pos;
 use topo::Walk;
 
 /// Whether the step goes from one position to another.
-pub(crate) fn is_step(step: Step, from: Pos, to: Pos) -> bool
+pub(crate) fn is_step(step: ArcStep, from: Pos, to: Pos) -> bool
     ensures { result ≡ spec.is_step step from to }
 {
     step.from == from && step.to == to
 }
 
 /// The least step of a walk; None where it has none.
-pub(crate) fn least_step(mut walk: Walk) -> Option<Step>
+pub(crate) fn least_step(mut walk: Walk) -> Option<ArcStep>
     ensures { result ≡ spec.least_step walk.entry }
 {
     let from = *walk.next()?;
     let mut here = *walk.next()?;
-    let mut least = Step { from, to: here };
+    let mut least = ArcStep { from, to: here };
     while let Some(next) = walk.next() {
-        least = least.min(Step {
+        least = least.min(ArcStep {
             from: here,
             to: *next,
         });
@@ -32,7 +32,7 @@ pub(crate) fn least_step(mut walk: Walk) -> Option<Step>
 }
 
 /// What is left of a walk behind a step.
-pub(crate) fn behind(mut walk: Walk<'_>, step: Step) -> Walk<'_>
+pub(crate) fn behind(mut walk: Walk<'_>, step: ArcStep) -> Walk<'_>
     ensures { result ≡ behind_step step walk.entry }
 {
     if let Some(first) = walk.next() {

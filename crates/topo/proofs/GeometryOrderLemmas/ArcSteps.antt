@@ -18,15 +18,15 @@ use Rattle.topo.specs.GeometryOrder.Noded.{AreNoded}
 use Rattle.arcs.proofs.Steps.{step_same, step_total}
 use Rattle.arcs.specs.Steps.{first_of, step_along, step_cmp}
 use Rattle.topo.specs.GeometryOrder.Lists.{starts_cmp}
-use Rattle.arcs.specs.declared.step.Step.{Step}
+use Rattle.arcs.specs.declared.step.ArcStep.{ArcStep}
 
 module _ (arcs : List (List Pos)) where
-  abbrev pub steps_along : ArcRef → List Step
+  abbrev pub steps_along : ArcRef → List ArcStep
   steps_along a = steps_of (run_of arcs a)
 
   -- the used arc has a first step
   abbrev pub Goes : ArcRef → Type 0
-  Goes a = (s : Step) × (l : List Step) × (steps_along a ≡ s ∷ l) × (step_along arcs a ≡ Some s)
+  Goes a = (s : ArcStep) × (l : List ArcStep) × (steps_along a ≡ s ∷ l) × (step_along arcs a ≡ Some s)
 
   -- the steps of what arcs stitch to are theirs, one after the other
   pub stitched_steps : (x : Pos) (us : List ArcRef) (r : List Pos) → StitchFrom arcs x us r → steps_from x r ≡ gathered steps_along us
@@ -34,17 +34,17 @@ module _ (arcs : List (List Pos)) where
   stitched_steps x (a ∷ us) r (q, s, e, f, h) =
       ap (steps_from x) f ∙ steps_join x q s ∙ (λ i. steps_of (unwrap_or (sym e i) []) ++ stitched_steps (last_of x q) us s h i)
 
-  two_go : (c : List Pos) → 2 ≤ length c → (s : Step) × (l : List Step) × (steps_of c ≡ s ∷ l) × (first_of c ≡ Some s)
+  two_go : (c : List Pos) → 2 ≤ length c → (s : ArcStep) × (l : List ArcStep) × (steps_of c ≡ s ∷ l) × (first_of c ≡ Some s)
   two_go [] n = absurd (omega arith)
   two_go (p ∷ []) n = absurd (omega arith)
   two_go (p ∷ (q ∷ l)) n = (record { from = p; to = q }, steps_from q l, refl, refl)
 
-  has_steps : (s : Step) (c : List Pos) → Has s (steps_of c) → Steps s.from s.to c
+  has_steps : (s : ArcStep) (c : List Pos) → Has s (steps_of c) → Steps s.from s.to c
   has_steps s [] h = absurd h
   has_steps s (p ∷ l) h = step_there s p l h
 
   -- a step along a used arc is one along the arc, in the direction of its use
-  step_in_arc : (a : ArcRef) (s : Step) → Has s (steps_along a) → (d : List Pos) × (slice_get arcs a.arc ≡ Some d) × Steps s.from s.to (cond a.reversed (reverse d) d)
+  step_in_arc : (a : ArcRef) (s : ArcStep) → Has s (steps_along a) → (d : List Pos) × (slice_get arcs a.arc ≡ Some d) × Steps s.from s.to (cond a.reversed (reverse d) d)
   step_in_arc a s h = go (slice_get arcs a.arc) refl h
     where
       go : (o : Option (List Pos)) → slice_get arcs a.arc ≡ o → Has s (steps_of (unwrap_or (option_map (λ c. cond a.reversed (reverse c) c) o) [])) →
@@ -65,7 +65,7 @@ module _ (arcs : List (List Pos)) where
         let k = along_get arcs a c e in
         let n : 2 ≤ length c = go a.reversed k.0 (noded.long k.0 (get_has arcs a.arc k.0 k.1)) k.2 in
         let m : run_of arcs a ≡ c = ap (λ o. unwrap_or o []) e in
-        subst (λ w. (s : Step) × (l : List Step) × (steps_of w ≡ s ∷ l) × (first_of w ≡ Some s)) (sym m) (two_go c n)
+        subst (λ w. (s : ArcStep) × (l : List ArcStep) × (steps_of w ≡ s ∷ l) × (first_of w ≡ Some s)) (sym m) (two_go c n)
       where
         go : (b : Bool) (d : List Pos) → 2 ≤ length d → c ≡ cond b (reverse d) d → 2 ≤ length c
         go false d n f = subst (λ w. 2 ≤ length w) (sym f) n
@@ -78,7 +78,7 @@ module _ (arcs : List (List Pos)) where
     all_go x (b ∷ us) r (q, s, e, f, h) a (inr k) = all_go (last_of x q) us s h a k
 
     -- two used arcs that have a step in common are one
-    pub one_ref : (a b : ArcRef) (s : Step) → Has s (steps_along a) → Has s (steps_along b) → a ≡ b
+    pub one_ref : (a b : ArcRef) (s : ArcStep) → Has s (steps_along a) → Has s (steps_along b) → a ≡ b
     one_ref a b s h k =
         let (d, e, m) = step_in_arc a s h in
         let (d', e', m') = step_in_arc b s k in
@@ -95,16 +95,16 @@ module _ (arcs : List (List Pos)) where
         go d t true false m n = absurd (one_way s.from s.to d (noded.one_place d t) n (back s.from s.to d m))
 
     -- those that begin by one step are one
-    begin_alike : (a b : ArcRef) (s t : Step) (l k : List Step) → steps_along a ≡ s ∷ l → steps_along b ≡ t ∷ k → step_cmp s t ≡ Equal → a ≡ b
+    begin_alike : (a b : ArcRef) (s t : ArcStep) (l k : List ArcStep) → steps_along a ≡ s ∷ l → steps_along b ≡ t ∷ k → step_cmp s t ≡ Equal → a ≡ b
     begin_alike a b s t l k e f same =
         one_ref a b s (subst (Has s) (sym e) (inl refl)) (subst (Has s) (sym f) (inl (step_same s t same)))
 
-    alike_behind : (a b : ArcRef) (s t : Step) (l k : List Step) → steps_along a ≡ s ∷ l → steps_along b ≡ t ∷ k → step_cmp s t ≡ Equal → l ≡ k
+    alike_behind : (a b : ArcRef) (s t : ArcStep) (l k : List ArcStep) → steps_along a ≡ s ∷ l → steps_along b ≡ t ∷ k → step_cmp s t ≡ Equal → l ≡ k
     alike_behind a b s t l k e f same =
         let g : s ∷ l ≡ t ∷ k = sym e ∙ ap steps_along (begin_alike a b s t l k e f same) ∙ f in cc
 
     -- what two lists begin with alike doesn't count
-    pub same_front : (l x y : List Step) → slice_cmp step_cmp (l ++ x) (l ++ y) ≡ slice_cmp step_cmp x y
+    pub same_front : (l x y : List ArcStep) → slice_cmp step_cmp (l ++ x) (l ++ y) ≡ slice_cmp step_cmp x y
     same_front [] x y = refl
     same_front (s ∷ l) x y = ap (λ o. ordering_then o (slice_cmp step_cmp (l ++ x) (l ++ y))) (tied_itself step_total s) ∙ same_front l x y
 

@@ -19,13 +19,13 @@ use Rattle.topo.specs.GeometryOrder.Lists.{lead_from, lead_of, turned}
 use Rattle.arcs.specs.Steps.{least_from, step, step_back, step_cmp}
 use Rattle.topo.specs.declared.geometry_order.least.LeastSteps.{LeastSteps}
 use Rattle.topo.specs.declared.geometry_order.lists.Lead.{Lead}
-use Rattle.arcs.specs.declared.step.Step.{Step}
+use Rattle.arcs.specs.declared.step.ArcStep.{ArcStep}
 use Rattle.arcs.proofs.Steps.{least_is, step_total}
 
 -- a step of the list that comes before no other comes after it
-pub record IsLeastStep (c : List Pos) (s : Step) : Type 0 where
+pub record IsLeastStep (c : List Pos) (s : ArcStep) : Type 0 where
   pub there : Steps s.from s.to c
-  pub least : (t : Step) → Steps t.from t.to c → is_gt (step_cmp s t) ≡ false
+  pub least : (t : ArcStep) → Steps t.from t.to c → is_gt (step_cmp s t) ≡ false
 
 along_least : (p q : Pos) (l : List Pos) → IsLeastStep (p ∷ (q ∷ l)) (least_from step (step p q) q l)
 along_least p q l =
@@ -72,7 +72,7 @@ get_mapped f (y ∷ l) (suc i) x e = get_mapped f l i x e
 
 -- what is noted of a used arc is the least step along it
 pub noted_least : (arcs : List (List Pos)) (a : ArcRef) (d : List Pos) → slice_get arcs a.arc ≡ Some d → 2 ≤ length d →
-    (s : Step) × (least_at (least_of arcs) a ≡ Some s) × IsLeastStep (cond a.reversed (reverse d) d) s
+    (s : ArcStep) × (least_at (least_of arcs) a ≡ Some s) × IsLeastStep (cond a.reversed (reverse d) d) s
 noted_least arcs a d e n =
     let (b, f, h, k) = both_least d n in
     let g : slice_get (least_of arcs) a.arc ≡ Some (Some b) = get_mapped least_both arcs a.arc d e ∙ ap Some f in

@@ -11,15 +11,15 @@ use Rattle.theory.specs.LinesAndRings.{IsRotation, closed}
 use Rattle.theory.specs.Lists.{Has, Steps}
 use Rattle.topo.proofs.GeometryOrderLemmas.StepLists.{itself, step_there, steps_from, steps_of, steps_parted}
 use Rattle.arcs.specs.Steps.{step_cmp}
-use Rattle.arcs.specs.declared.step.Step.{Step}
+use Rattle.arcs.specs.declared.step.ArcStep.{ArcStep}
 
 -- the steps round a rotation are the same, from another one on
-pub rotated : (r q : List Pos) → IsRotation r q → (a : List Step) × (b : List Step) × (steps_of (closed r) ≡ a ++ b) × (steps_of (closed q) ≡ b ++ a)
+pub rotated : (r q : List Pos) → IsRotation r q → (a : List ArcStep) × (b : List ArcStep) × (steps_of (closed r) ≡ a ++ b) × (steps_of (closed q) ≡ b ++ a)
 rotated r q (s, t, e, f) =
     let k = go s t in
     (k.0, k.1, ap (λ w. steps_of (closed w)) e ∙ k.2, ap (λ w. steps_of (closed w)) f ∙ k.3)
   where
-    go : (s t : List Pos) → (a : List Step) × (b : List Step) × (steps_of (closed (s ++ t)) ≡ a ++ b) × (steps_of (closed (t ++ s)) ≡ b ++ a)
+    go : (s t : List Pos) → (a : List ArcStep) × (b : List ArcStep) × (steps_of (closed (s ++ t)) ≡ a ++ b) × (steps_of (closed (t ++ s)) ≡ b ++ a)
     go [] t = ([], steps_of (closed t), refl, ap (λ w. steps_of (closed w)) (append_nil t) ∙ sym (append_nil (steps_of (closed t))))
     go (x ∷ s) [] = (steps_of (closed (x ∷ s)), [], ap (λ w. steps_of (closed (x ∷ w))) (append_nil s) ∙ sym (append_nil (steps_of (closed (x ∷ s)))), refl)
     go (x ∷ s) (y ∷ t) = (
@@ -53,7 +53,7 @@ not_gt Equal Greater c e = absurd cc
 not_gt Greater b c e = absurd cc
 
 -- the first step of the least rotation is the least step round the ring
-pub first_least : (x y : Pos) (l : List Pos) → IsLeastRotation (x ∷ (y ∷ l)) → (s : Step) → Has s (steps_of (closed (x ∷ (y ∷ l)))) →
+pub first_least : (x y : Pos) (l : List Pos) → IsLeastRotation (x ∷ (y ∷ l)) → (s : ArcStep) → Has s (steps_of (closed (x ∷ (y ∷ l)))) →
     is_gt (step_cmp (record { from = x; to = y }) s) ≡ false
 first_least x y l least s h =
     let k = step_begins s.from s.to x y l (step_there s x (y ∷ (l ++ (x ∷ []))) h) in

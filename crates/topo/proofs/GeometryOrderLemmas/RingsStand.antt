@@ -30,7 +30,7 @@ use Rattle.topo.specs.GeometryOrder.Noded.{AreNoded}
 use Rattle.arcs.proofs.Steps.{step_same, step_total}
 use Rattle.arcs.specs.Steps.{step_cmp}
 use Rattle.topo.specs.declared.geometry_order.lists.Lead.{Lead}
-use Rattle.arcs.specs.declared.step.Step.{Step}
+use Rattle.arcs.specs.declared.step.ArcStep.{ArcStep}
 
 -- the steps of a list that used arcs stitch to are theirs
 pub stitch_steps : (arcs : List (List Pos)) (us : List ArcRef) (l : List Pos) → StitchTo arcs us l → steps_of l ≡ gathered (steps_along arcs) us
@@ -70,9 +70,9 @@ closed_stand x y k l f g =
 -- a ring read from the step in an arc with which it begins: s of the arc a, which has t before it and d behind it
 pub record ReadFrom (arcs : List (List Pos)) (r : List Pos) (us : List ArcRef) (l : Lead) : Type 0 where
   pub arc : ArcRef
-  pub first : Step
-  pub before : List Step
-  pub rest : List Step
+  pub first : ArcStep
+  pub before : List ArcStep
+  pub rest : List ArcStep
   pub others : List ArcRef
   pub whole : steps_along arcs arc ≡ before ++ (first ∷ rest)
   pub once : Distinct (before ++ (first ∷ rest))
@@ -119,20 +119,20 @@ closed_distinct (x ∷ l) t = trail_distinct x (l ++ (x ∷ [])) t
 
 module _ (arcs : List (List Pos)) (noded : AreNoded arcs) where
   -- a used arc's least step
-  least_along : (a : ArcRef) → Goes arcs a → (s : Step) × (least_at (least_of arcs) a ≡ Some s) × Has s (steps_along arcs a)
-      × ((t : Step) → Has t (steps_along arcs a) → is_gt (step_cmp s t) ≡ false)
+  least_along : (a : ArcRef) → Goes arcs a → (s : ArcStep) × (least_at (least_of arcs) a ≡ Some s) × Has s (steps_along arcs a)
+      × ((t : ArcStep) → Has t (steps_along arcs a) → is_gt (step_cmp s t) ≡ false)
   least_along a (s, l, e, _) = go (slice_get arcs a.arc) refl (subst (Has s) (sym e) (inl refl))
     where
-      listed : (s : Step) (c : List Pos) → Steps s.from s.to c → Has s (steps_of c)
+      listed : (s : ArcStep) (c : List Pos) → Steps s.from s.to c → Has s (steps_of c)
       listed s [] h = absurd h
       listed s (p ∷ l) h = step_listed s.from s.to p l h
 
-      unlisted : (s : Step) (c : List Pos) → Has s (steps_of c) → Steps s.from s.to c
+      unlisted : (s : ArcStep) (c : List Pos) → Has s (steps_of c) → Steps s.from s.to c
       unlisted s [] h = absurd h
       unlisted s (p ∷ l) h = step_there s p l h
 
       go : (o : Option (List Pos)) → slice_get arcs a.arc ≡ o → Has s (steps_of (unwrap_or (option_map (λ c. cond a.reversed (reverse c) c) o) [])) →
-          (s : Step) × (least_at (least_of arcs) a ≡ Some s) × Has s (steps_along arcs a) × ((t : Step) → Has t (steps_along arcs a) → is_gt (step_cmp s t) ≡ false)
+          (s : ArcStep) × (least_at (least_of arcs) a ≡ Some s) × Has s (steps_along arcs a) × ((t : ArcStep) → Has t (steps_along arcs a) → is_gt (step_cmp s t) ≡ false)
       go None e h = absurd h
       go (Some d) e h =
           let (m, f, k) = noted_least arcs a d e (noded.long d (get_has arcs a.arc d e)) in
@@ -150,7 +150,7 @@ module _ (arcs : List (List Pos)) (noded : AreNoded arcs) where
   read_parts x y p us q l ring least turn stitch lead =
       let W = gathered (steps_along arcs) in
       let r = x ∷ (y ∷ p) in
-      let s1 : Step = record { from = x; to = y } in
+      let s1 : ArcStep = record { from = x; to = y } in
       let tail = steps_from y (p ++ (x ∷ [])) in
       let all : steps_of (closed q) ≡ W us = stitch_steps arcs us (closed q) stitch in
       let go : (a : ArcRef) → Has a us → Goes arcs a = stitch_go arcs noded us (closed q) stitch in
@@ -164,7 +164,7 @@ module _ (arcs : List (List Pos)) (noded : AreNoded arcs) where
       let in_ring : Has s (steps_of (closed r)) =
       subst (Has s) (sym ra) (elim (Has-append s b a (subst (Has s) (sym all ∙ rb) in_all)) [ inl k ↦ Has-append_right s a b k | inr k ↦ Has-append_left s a b k ]) in
       let first_at_most : is_gt (step_cmp s1 s) ≡ false = first_least x y p least s in_ring in
-      let least_at_most : (t : Step) → Has t (W us) → is_gt (step_cmp s t) ≡ false =
+      let least_at_most : (t : ArcStep) → Has t (W us) → is_gt (step_cmp s t) ≡ false =
       λ t h.
       let (u, hu, ht) = gathered_from (steps_along arcs) us t h in
       let (m, mat, _, mall) = least_along u (go u hu) in
@@ -214,7 +214,7 @@ module _ (arcs : List (List Pos)) (noded : AreNoded arcs) where
             };
       }
     where
-      once_in : (m : Step) (before behind f b : List Step) → Distinct ((f ++ before) ++ (m ∷ (behind ++ b))) → Distinct (before ++ (m ∷ behind))
+      once_in : (m : ArcStep) (before behind f b : List ArcStep) → Distinct ((f ++ before) ++ (m ∷ (behind ++ b))) → Distinct (before ++ (m ∷ behind))
       once_in m before behind f b n =
           distinct_left (before ++ (m ∷ behind)) b
           (subst Distinct (sym (append_assoc before (m ∷ behind) b))

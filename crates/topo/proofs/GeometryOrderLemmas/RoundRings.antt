@@ -15,13 +15,13 @@ use Rattle.topo.specs.GeometryOrder.Noded.{AreNoded}
 use Rattle.arcs.proofs.Steps.{step_same, step_total}
 use Rattle.arcs.specs.Steps.{step_cmp}
 use Rattle.topo.specs.GeometryOrder.Lists.{starts_cmp}
-use Rattle.arcs.specs.declared.step.Step.{Step}
+use Rattle.arcs.specs.declared.step.ArcStep.{ArcStep}
 
 -- another used arc, none of whose steps comes before the step
-pub record Apart (arcs : List (List Pos)) (a : ArcRef) (least : Step) (u : ArcRef) : Type 0 where
+pub record Apart (arcs : List (List Pos)) (a : ArcRef) (least : ArcStep) (u : ArcRef) : Type 0 where
   pub goes : Goes arcs u
   pub other : ¬ (u ≡ a)
-  pub behind : (s : Step) → Has s (steps_along arcs u) → is_gt (step_cmp least s) ≡ false
+  pub behind : (s : ArcStep) → Has s (steps_along arcs u) → is_gt (step_cmp least s) ≡ false
 
 first_counts : (a : Ordering) → is_gt a ≡ false → Less ≡ ordering_then a Less
 first_counts Less e = refl
@@ -33,7 +33,7 @@ greater_counts Less b e f = ap (λ o. ordering_then o Greater) (sym f)
 greater_counts Equal b e f = ap (λ o. ordering_then o Greater) (sym f)
 greater_counts Greater b e f = absurd cc
 
-module _ (arcs : List (List Pos)) (noded : AreNoded arcs) (a : ArcRef) (t d : List Step) (least : Step) (whole : steps_along arcs a ≡ t ++ (least ∷ d)) (goes : Goes arcs a) where
+module _ (arcs : List (List Pos)) (noded : AreNoded arcs) (a : ArcRef) (t d : List ArcStep) (least : ArcStep) (whole : steps_along arcs a ≡ t ++ (least ∷ d)) (goes : Goes arcs a) where
   nothing_less : (vs : List ArcRef) → starts_cmp arcs [] (vs ++ (a ∷ [])) ≡ Less
   nothing_less [] = refl
   nothing_less (v ∷ vs) = refl
@@ -43,11 +43,11 @@ module _ (arcs : List (List Pos)) (noded : AreNoded arcs) (a : ArcRef) (t d : Li
   something_greater (u ∷ us) = refl
 
   -- the first list ends where the arc begins
-  ends_first : (v : ArcRef) (more : List Step) (vs : List ArcRef) → Apart arcs a least v → (p : List Step) → p ≡ t →
+  ends_first : (v : ArcRef) (more : List ArcStep) (vs : List ArcRef) → Apart arcs a least v → (p : List ArcStep) → p ≡ t →
       slice_cmp step_cmp p ((steps_along arcs v ++ more) ++ t) ≡ starts_cmp arcs (a ∷ []) (v ∷ (vs ++ (a ∷ [])))
   ends_first v more vs n p e = go p e goes n.goes
     where
-      go : (p : List Step) → p ≡ t → Goes arcs a → Goes arcs v → slice_cmp step_cmp p ((steps_along arcs v ++ more) ++ t) ≡ starts_cmp arcs (a ∷ []) (v ∷ (vs ++ (a ∷ [])))
+      go : (p : List ArcStep) → p ≡ t → Goes arcs a → Goes arcs v → slice_cmp step_cmp p ((steps_along arcs v ++ more) ++ t) ≡ starts_cmp arcs (a ∷ []) (v ∷ (vs ++ (a ∷ [])))
       go [] e (s, l, f, b) (s', k, f', b') =
           let g : s ∷ l ≡ least ∷ d = sym f ∙ whole ∙ ap (λ w. w ++ (least ∷ d)) (sym e) in
           let m : least ≡ s = cc in
@@ -63,11 +63,11 @@ module _ (arcs : List (List Pos)) (noded : AreNoded arcs) (a : ArcRef) (t d : Li
           (λ same. absurd (n.other (one_ref arcs noded v a s' (subst (Has s') (sym f') (inl refl)) (subst (Has s') (sym f) (inl (sym (step_same s s' same)))))))
           ∙ (λ i. ordering_then (option_cmp step_cmp (sym b i) (sym b' i)) (sym (nothing_less vs) i))
 
-  ends_second : (u : ArcRef) (more : List Step) (us : List ArcRef) → Apart arcs a least u → (p : List Step) → p ≡ t →
+  ends_second : (u : ArcRef) (more : List ArcStep) (us : List ArcRef) → Apart arcs a least u → (p : List ArcStep) → p ≡ t →
       slice_cmp step_cmp ((steps_along arcs u ++ more) ++ t) p ≡ starts_cmp arcs (u ∷ (us ++ (a ∷ []))) (a ∷ [])
   ends_second u more us n p e = go p e goes n.goes
     where
-      go : (p : List Step) → p ≡ t → Goes arcs a → Goes arcs u → slice_cmp step_cmp ((steps_along arcs u ++ more) ++ t) p ≡ starts_cmp arcs (u ∷ (us ++ (a ∷ []))) (a ∷ [])
+      go : (p : List ArcStep) → p ≡ t → Goes arcs a → Goes arcs u → slice_cmp step_cmp ((steps_along arcs u ++ more) ++ t) p ≡ starts_cmp arcs (u ∷ (us ++ (a ∷ []))) (a ∷ [])
       go [] e (s, l, f, b) (s', k, f', b') =
           let g : s ∷ l ≡ least ∷ d = sym f ∙ whole ∙ ap (λ w. w ++ (least ∷ d)) (sym e) in
           let m : least ≡ s = cc in

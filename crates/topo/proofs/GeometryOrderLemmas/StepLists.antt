@@ -11,14 +11,14 @@ use Rattle.lines.specs.Turned.{position_cmp, list_cmp}
 use Rattle.theory.specs.LinesAndRings.{Trail}
 use Rattle.theory.specs.Lists.{Distinct, Has, Steps, last_of}
 use Rattle.arcs.specs.Steps.{step_cmp}
-use Rattle.arcs.specs.declared.step.Step.{Step}
+use Rattle.arcs.specs.declared.step.ArcStep.{ArcStep}
 
 -- the steps of a list that goes on from p
-abbrev pub steps_from : Pos → List Pos → List Step
+abbrev pub steps_from : Pos → List Pos → List ArcStep
 steps_from p [] = []
 steps_from p (q ∷ l) = record { from = p; to = q } ∷ steps_from q l
 
-abbrev pub steps_of : List Pos → List Step
+abbrev pub steps_of : List Pos → List ArcStep
 steps_of [] = []
 steps_of (p ∷ l) = steps_from p l
 
@@ -66,7 +66,7 @@ steps_parted p x [] l = refl
 steps_parted p x (y ∷ k) l = ap (λ w. record { from = p; to = y } ∷ w) (steps_parted y x k l)
 
 -- a step of the list of steps is one along the list
-pub step_there : (s : Step) (p : Pos) (l : List Pos) → Has s (steps_from p l) → Steps s.from s.to (p ∷ l)
+pub step_there : (s : ArcStep) (p : Pos) (l : List Pos) → Has s (steps_from p l) → Steps s.from s.to (p ∷ l)
 step_there s p [] h = absurd h
 step_there s p (q ∷ l) (inl e) = inl (ap (λ t. t.from) e, ap (λ t. t.to) e)
 step_there s p (q ∷ l) (inr h) = inr (step_there s q l h)

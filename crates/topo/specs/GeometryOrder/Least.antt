@@ -4,7 +4,7 @@ use Rattle.std.specs.Global.{Vec}
 use Rattle.grid.specs.declared.pos.Pos.{Pos}
 use Rattle.theory.specs.ArcNumbers.{ArcRef}
 use Rattle.arcs.specs.Steps.{least_from, step, step_back}
-use Rattle.arcs.specs.declared.step.Step.{Step}
+use Rattle.arcs.specs.declared.step.ArcStep.{ArcStep}
 use Rattle.topo.specs.declared.geometry_order.least.LeastSteps.{LeastSteps}
 
 -- where the arc goes on from p
@@ -21,16 +21,16 @@ least_both (p ∷ (q ∷ l)) = Some (least_on (record { forward = step p q; back
 abbrev pub least_of : List (List Pos) → List (Option LeastSteps)
 least_of arcs = map least_both arcs
 
-abbrev pub least_way : Option LeastSteps → ArcRef → Option Step
+abbrev pub least_way : Option LeastSteps → ArcRef → Option ArcStep
 least_way None a = None
 least_way (Some s) a = Some (cond a.reversed s.backward s.forward)
 
-abbrev pub least_if : Option (Option LeastSteps) → ArcRef → Option Step
+abbrev pub least_if : Option (Option LeastSteps) → ArcRef → Option ArcStep
 least_if None a = None
 least_if (Some o) a = least_way o a
 
 -- the least step along a used arc, where these are those of the arcs
-abbrev pub least_at : List (Option LeastSteps) → ArcRef → Option Step
+abbrev pub least_at : List (Option LeastSteps) → ArcRef → Option ArcStep
 least_at least a = least_if (slice_get least a.arc) a
 
 -- what is noted, where it is, are the least steps of the arcs

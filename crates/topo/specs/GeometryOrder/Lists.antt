@@ -9,7 +9,7 @@ use Rattle.shapes.specs.Order.{form_cmp}
 use Rattle.theory.specs.ArcNumbers.{ArcRef}
 use Rattle.topo.specs.Bodies.{Body}
 use Rattle.arcs.specs.Steps.{step_along, step_cmp}
-use Rattle.arcs.specs.declared.step.Step.{Step}
+use Rattle.arcs.specs.declared.step.ArcStep.{ArcStep}
 use Rattle.topo.specs.GeometryOrder.Least.{least_at}
 use Rattle.topo.specs.declared.geometry_order.least.LeastSteps.{LeastSteps}
 use Rattle.topo.specs.declared.geometry_order.lists.Lead.{Lead}
@@ -30,15 +30,15 @@ abbrev pub turned : List ArcRef → ℕ → List ArcRef
 turned used n = drop n used ++ take n used
 
 -- the first steps along the arcs of a line
-abbrev pub line_key : List (List Pos) → List ArcRef → List (Option Step)
+abbrev pub line_key : List (List Pos) → List ArcRef → List (Option ArcStep)
 line_key arcs us = map (step_along arcs) us
 
 -- the least step of a ring, and the first steps along its arcs from there
-abbrev pub ring_key : List (List Pos) → List (Option LeastSteps) → List ArcRef → List (Option Step)
+abbrev pub ring_key : List (List Pos) → List (Option LeastSteps) → List ArcRef → List (Option ArcStep)
 ring_key arcs least us = (lead_of least us).step ∷ line_key arcs (turned us (lead_of least us).behind)
 
 -- steps, one after the other
-abbrev pub steps_cmp : List (Option Step) → List (Option Step) → Ordering
+abbrev pub steps_cmp : List (Option ArcStep) → List (Option ArcStep) → Ordering
 steps_cmp = slice_cmp (option_cmp step_cmp)
 
 -- lists of used arcs by the first steps along them

@@ -1,11 +1,11 @@
 //! What geometries are sorted by: their bodies, with the first steps along the arcs of a list in the list's place.
 ghost use Rattle.arcs.specs.Steps.{step_along};
-ghost use Rattle.arcs.specs.declared.step.Step as steps;
+ghost use Rattle.arcs.specs.declared.step.ArcStep as steps;
 ghost use Rattle.topo.specs.GeometryOrder.Lists as spec;
 ghost use Rattle.std.specs.Prelude.{◌≡◌, ◌++◌, List, OnOk, Option, map};
 
 use crate::geometry_order::lists::{Ordered, find_lead};
-use arcs::step::Step;
+use arcs::step::ArcStep;
 use arcs::table::{ArcRef, ArcTable};
 use faults::OutOfMemory;
 use lines::items::Items;
@@ -14,13 +14,13 @@ use shapes::form_map::Become;
 use std::alloc::{AllocError, Global};
 
 /// The steps of a list, one behind the other.
-pub(crate) type Steps = Items<Option<Step>>;
+pub(crate) type Steps = Items<Option<ArcStep>>;
 
 /// A body, with the steps of each list in the list's place.
 pub(crate) type BodyKey = Form<Steps, Steps>;
 
 fn add_steps(
-    steps: &mut Vec<Option<Step>>,
+    steps: &mut Vec<Option<ArcStep>>,
     arcs: &ArcTable,
     used: &[ArcRef],
 ) -> Result<(), AllocError>
@@ -39,7 +39,7 @@ pub(crate) struct LineSteps<'a>(pub(crate) &'a ArcTable);
 impl<'a> Become<Items<ArcRef>> for LineSteps<'a> {
     type Made = Steps;
 
-    ghost Seen = { List (Option steps.Step) };
+    ghost Seen = { List (Option steps.ArcStep) };
 
     ghost seen = { λ made. made };
 
@@ -60,7 +60,7 @@ pub(crate) struct RingSteps<'a>(pub(crate) &'a Ordered<'a>);
 impl<'a> Become<Items<ArcRef>> for RingSteps<'a> {
     type Made = Steps;
 
-    ghost Seen = { List (Option steps.Step) };
+    ghost Seen = { List (Option steps.ArcStep) };
 
     ghost seen = { λ made. made };
 

@@ -2,7 +2,7 @@
 ghost use Rattle.topo.specs.GeometryOrder.Least.{least_at, least_both, least_of};
 ghost use Rattle.std.specs.Prelude.{◌≡◌, IfOk};
 
-use arcs::step::Step;
+use arcs::step::ArcStep;
 use arcs::table::{ArcRef, ArcTable};
 use faults::OutOfMemory;
 use grid::Pos;
@@ -11,8 +11,8 @@ use std::alloc::Global;
 /// The least steps along an arc and against it.
 #[derive(Clone, Copy)]
 pub(crate) struct LeastSteps {
-    forward: Step,
-    backward: Step,
+    forward: ArcStep,
+    backward: ArcStep,
 }
 
 /// The least steps of an arc; `None` where it has no two positions.
@@ -22,15 +22,15 @@ fn least_steps(arc: &[Pos]) -> Option<LeastSteps>
     let (first, others) = arc.split_first()?;
     let (second, rest) = others.split_first()?;
     let (from, mut here) = (*first, *second);
-    let mut forward = Step { from, to: here };
-    let mut backward = Step {
+    let mut forward = ArcStep { from, to: here };
+    let mut backward = ArcStep {
         from: here,
         to: from,
     };
     for next in rest {
         let (from, to) = (here, *next);
-        forward = forward.min(Step { from, to });
-        backward = backward.min(Step { from: to, to: from });
+        forward = forward.min(ArcStep { from, to });
+        backward = backward.min(ArcStep { from: to, to: from });
         here = to;
     }
     Some(LeastSteps { forward, backward })
@@ -51,7 +51,7 @@ pub(crate) fn least_of_arcs(
 }
 
 /// The least step along a used arc; `None` where no arc has its number.
-pub(crate) fn least_step(least: &[Option<LeastSteps>], used: &ArcRef) -> Option<Step>
+pub(crate) fn least_step(least: &[Option<LeastSteps>], used: &ArcRef) -> Option<ArcStep>
     ensures { result ≡ least_at least.now used.now }
 {
     let of_arc = (*least.get(used.arc)?)?;

@@ -10,7 +10,7 @@ ghost use Rattle.std.specs.Prelude.{◌≡◌, ◌≤◌, List, Option, length};
 ghost use Rattle.std.specs.declared.cmp.Ordering.{Ordering as order_of};
 
 use crate::geometry_order::least::{LeastSteps, least_step};
-use arcs::step::Step;
+use arcs::step::ArcStep;
 use arcs::table::{ArcRef, ArcTable};
 use lines::items::Items;
 use lines::line::Line;
@@ -27,11 +27,11 @@ pub(crate) struct Ordered<'a> {
 /// The least step of a list of used arcs, and how many arcs there are up to the one that has it.
 #[derive(Clone, Copy)]
 pub(crate) struct Lead {
-    pub(crate) step: Option<Step>,
+    pub(crate) step: Option<ArcStep>,
     pub(crate) behind: usize,
 }
 
-fn comes_before(step: &Option<Step>, other: &Option<Step>) -> bool
+fn comes_before(step: &Option<ArcStep>, other: &Option<ArcStep>) -> bool
     ensures { result ≡ is_lt (option_cmp step_cmp step.now other.now) }
 {
     step < other

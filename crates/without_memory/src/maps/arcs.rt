@@ -1,7 +1,7 @@
 //! Arcs, topologies, and walks along them.
 
 use crate::square::ring;
-use arcs::Step;
+use arcs::ArcStep;
 use chains::ordered::is_rising;
 use chains::{ArcRef, ArcTable, Piece, VisitIndex, cut_ring, turn_ring};
 use grid::{Grid, Pos};
@@ -53,7 +53,7 @@ fn has_arc(topology: &Topology) -> bool {
     }
 }
 
-fn is_step(step: Option<Step>, from: (i64, i64), to: (i64, i64)) -> bool {
+fn is_step(step: Option<ArcStep>, from: (i64, i64), to: (i64, i64)) -> bool {
     match step {
         Some(step) => { (step.from.x(), step.from.y()) == from && (step.to.x(), step.to.y()) == to }
         None => false,
@@ -67,14 +67,14 @@ fn has_first_step(arcs: &ArcTable) -> bool {
 
 fn begins_along(arcs: &ArcTable) -> bool {
     match arcs.arc(1) {
-        Some(arc) => is_step(Step::first_along(arc), (1, 0), (1, 1)),
+        Some(arc) => is_step(ArcStep::first_along(arc), (1, 0), (1, 1)),
         None => false,
     }
 }
 
 fn begins_against(arcs: &ArcTable) -> bool {
     match arcs.arc(1) {
-        Some(arc) => is_step(Step::first_against(arc), (1, 1), (1, 0)),
+        Some(arc) => is_step(ArcStep::first_against(arc), (1, 1), (1, 0)),
         None => false,
     }
 }
@@ -270,8 +270,8 @@ fn test_table(rt: &HostRuntime, tally: &mut Tally, arcs: &ArcTable) {
         "ArcTable::len" => arcs.len() == 3,
         "ArcTable::iter" => arcs.iter().count() == 3,
         "ArcTable::first_step" => has_first_step(arcs),
-        "Step::first_along" => begins_along(arcs),
-        "Step::first_against" => begins_against(arcs),
+        "ArcStep::first_along" => begins_along(arcs),
+        "ArcStep::first_against" => begins_against(arcs),
         "ArcTable::is_free" => !arcs.is_free(0) && !arcs.is_free(3),
     );
 }
