@@ -18,7 +18,7 @@ pub mod visits;
 
 pub use arc_cutting::cut_arc;
 pub use arcs::{
-    ArcMarks, ArcRef, ArcTable, Extent, Piece, Step, arc_marks, marking, ordered, step, table,
+    ArcMarks, ArcRef, ArcStep, ArcTable, Extent, Piece, arc_marks, marking, ordered, step, table,
     table_arcs, turn_ring, turning, used_arcs,
 };
 pub use cutting::{add_pieces, cut_line, cut_ring};
