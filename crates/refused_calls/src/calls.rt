@@ -32,7 +32,11 @@ impl Borrowed for () {
 }
 
 /// Asks, and asks again after want of memory.
-fn ask_twice<L: Borrowed, F: Fn(Global, &L) -> Answer>(alloc: Global, borrowed: &L, ask: &F) -> Outcome
+fn ask_twice<L: Borrowed, F: Fn(Global, &L) -> Answer>(
+    alloc: Global,
+    borrowed: &L,
+    ask: &F,
+) -> Outcome
     requires { F.IsAlwaysCallable ask.now }
 {
     let first = Outcome::of_first(ask(alloc, borrowed), borrowed.is_as_before());

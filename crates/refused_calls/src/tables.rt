@@ -24,7 +24,12 @@ pub trait Lends: Borrowed + Drop + Sized {
 impl Tally {
     /// Makes each call of a table, as `attempt` does.
     pub fn attempt_each<L: Lends>(&mut self, rt: &HostRuntime, title: &str, rows: &[Row<L::Call>]) {
-        let made = self.borrowed(rt, title, "what is borrowed", |alloc: Global| L::make(alloc));
+        let made = self.borrowed(
+            rt,
+            title,
+            "what is borrowed",
+            |alloc: Global| L::make(alloc),
+        );
         if let Some(borrowed) = made {
             for (name, call) in rows {
                 self.attempt(rt, title, &borrowed, name, |alloc: Global, borrowed: &L| {

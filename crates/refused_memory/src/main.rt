@@ -8,7 +8,7 @@
 //! for memory refused in turn.
 #![tactic(auto)]
 
-mod arcs;
+mod arc_calls;
 mod edits;
 mod maps;
 mod parts;
@@ -30,7 +30,7 @@ fn first_word(rt: &HostRuntime) -> Option<String> {
 fn test(rt: &HostRuntime, tally: &mut Tally, group: &str) {
     match group {
         "parts" => parts::test(rt, tally),
-        "arcs" => arcs::test(rt, tally),
+        "arcs" => arc_calls::test(rt, tally),
         "maps" => maps::test(rt, tally),
         "edits" => edits::test(rt, tally),
         _ => {}

@@ -1,6 +1,6 @@
 //! Calls that read, build, ask, cut arcs again, write and put maps together, on worked maps.
 
-mod arcs;
+mod arc_calls;
 mod asking;
 mod parts;
 mod readers;
@@ -23,7 +23,7 @@ pub(crate) fn test(rt: &HostRuntime, tally: &mut Tally) {
     taken::test(rt, tally);
     recuts::test(rt, tally);
     unions::test(rt, tally);
-    arcs::test(rt, tally);
+    arc_calls::test(rt, tally);
     if let Some(squares) = &borrowed {
         streams::test(rt, tally, squares);
     }

@@ -1,9 +1,9 @@
 //! Calls of arcs and topologies.
 
-mod arcs;
+mod arc_calls;
 mod results;
 
-use arcs::{Cut, Squares};
+use arc_calls::{Cut, Squares};
 use refused_calls::outcome::Tally;
 use results::{CutAtOnce, Results, Shards};
 

@@ -1,6 +1,6 @@
 //! Segments of arcs, and the longest chains of them.
 
-use crate::arcs::pieces::{OF_ARC, SHARED, are_parts};
+use crate::arc_calls::pieces::{OF_ARC, SHARED, are_parts};
 use chains::{Segment, cut_arc, maximal, maximal_with, segments_of};
 use faults::OutOfMemory;
 use grid::Pos;

@@ -1,6 +1,6 @@
 //! What lines and rings are cut into.
 
-use crate::arcs::indexes::has_junctions;
+use crate::arc_calls::indexes::has_junctions;
 use chains::used_arcs::{add_backwards, add_in_direction};
 use chains::{ArcRef, ArcTable, Piece, VisitIndex, add_pieces, cut_line, cut_ring};
 use faults::OutOfMemory;
