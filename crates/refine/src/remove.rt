@@ -2,7 +2,7 @@
 //! where no junction is left. A geometry is stitched only where a removed feature has its id and properties.
 ghost use Rattle.topo.specs.LayerLaws.Leaving.{from_on, is_first, layer_less, order_to, others};
 ghost use Rattle.topo.specs.LayerLaws.LeftLists.{line_ends as ends_of_line};
-ghost use Rattle.topo.specs.LayerLaws.Less as healed_list;
+ghost use Rattle.topo.specs.LayerLaws.Less as spec;
 ghost use Rattle.topo.specs.LayerLaws.Less.{less};
 ghost use Rattle.arcs.specs.ArcMarks.{marks_set};
 ghost use Rattle.lines.specs.Turned.{position_cmp};
@@ -334,7 +334,7 @@ fn layer_over_healed(
     arcs: &HealedArcs,
     layer: &LayerLeft,
 ) -> Result<Layer, OutOfMemory>
-    ensures { IfOk result (λ l. l ≡ healed_list.layer_over_healed arcs.now.arcs.arcs (starts_by arcs.now.pieces) (borrowed layer.now)) }
+    ensures { IfOk result (λ l. l ≡ spec.layer_over_healed arcs.now.arcs.arcs (starts_by arcs.now.pieces) (borrowed layer.now)) }
 {
     let name = layer.name.copy(alloc)?;
     let lists = JoinedLists { joined: arcs };
@@ -351,7 +351,7 @@ fn layers_over_healed(
     arcs: &HealedArcs,
     layers: &[LayerLeft],
 ) -> Result<Vec<Layer>, OutOfMemory>
-    ensures { IfOk result (λ v. v.items ≡ map_list (healed_list.layer_over_healed arcs.now.arcs.arcs (starts_by arcs.now.pieces)) (all_borrowed layers.now)) }
+    ensures { IfOk result (λ v. v.items ≡ map_list (spec.layer_over_healed arcs.now.arcs.arcs (starts_by arcs.now.pieces)) (all_borrowed layers.now)) }
 {
     let mut made = Vec::with_capacity(alloc, layers.len())?;
     for layer in layers {
