@@ -3,10 +3,10 @@
     python3 tests/edits.py
     python3 tests/edits.py --try [--all] [--jobs N] [--seconds N] [--note] [CRATE..]
 
-An edit is a small wrong change of a crate's code. Those in crates/CRATE/must-fail are tried by the merge gate, which checks
-each crate that has one a second time. So only crates of at most {functions} functions have them there, and of others those
-that are a wrong body of tests/wrong_bodies.toml, one for each. All others are in tests/edits/CRATE. A crate has at most {most}
-in must-fail, and there are at most {all} in all.
+An edit is a small wrong change of a crate's code. Those in crates/CRATE/must-fail are tried by the merge gate, which proves
+each crate that has one a second time. So only crates whose proof is short have them there ({short}),
+and of others those that are a wrong body of tests/wrong_bodies.toml, one for each. All others are in tests/edits/CRATE. A
+crate has at most {most} in must-fail, and there are at most {all} in all.
 
 An edit is a line `file: PATH`, of a file of its crate, and behind it pairs of lines `old: TEXT` and `new: TEXT`. Each old text
 has to stand exactly once in its file, once the pairs before it are applied. No edit changes specs/ or proofs/, nor a line of a
@@ -40,7 +40,9 @@ APART = "tests/edits/{}"
 BODIES = "tests/wrong_bodies.toml"
 MOST = 8
 MOST_IN_ALL = 240
-MOST_FUNCTIONS = 80
+# Crates of at most 70 functions, which are proved in some four processor minutes at most.
+SHORT = ("faults", "grid", "lines", "merging", "numerals", "shapes", "sinks")
+MOST_FUNCTIONS = 70
 WRONG_BODIES = 25
 LINE = re.compile(r"(file|old|new):(?: (.*))?")
 CONTRACT = re.compile(r"\s*(?:ensures|requires|ghost)\b")
@@ -139,13 +141,15 @@ def faults_of(crate, paths):
             yield f"{path}: {wrong}"
 
 
-def functions_of(crate):
-    """How many functions a crate has, in words, if they are too many for its edits to be tried by the gate."""
+def why_apart(crate):
+    """Why the gate tries no edits of a crate but wrong bodies, in words, or nothing if it may."""
     # That script counts edits too.
     import house
 
     count = len(house.Crate(crate).functions)
-    return f"{count} functions, more than {MOST_FUNCTIONS}" if count > MOST_FUNCTIONS else ""
+    if crate in SHORT:
+        return f"has {count} functions, more than {MOST_FUNCTIONS}" if count > MOST_FUNCTIONS else ""
+    return "is none of the crates whose proof is short"
 
 
 def faults_of_gate(gate, bodies):
@@ -153,12 +157,12 @@ def faults_of_gate(gate, bodies):
     listed = {path: name for name, body in bodies.items() for path in body.get("refused_by", [])}
     done = set()
     for crate, paths in gate.items():
-        functions = functions_of(crate)
+        why = why_apart(crate)
         if len(paths) > MOST:
             yield f"{crate}: {len(paths)} edits in must-fail, more than {MOST}"
-        for path in paths if functions else []:
+        for path in paths if why else []:
             if listed.get(path) in {None, *done}:
-                yield f"{path}: {crate} has {functions}, and no wrong body of {BODIES} needs it: move it to {APART.format(crate)}"
+                yield f"{path}: {crate} {why}, and no wrong body of {BODIES} needs it: move it to {APART.format(crate)}"
             done.add(listed.get(path))
 
 
@@ -199,7 +203,7 @@ def look():
 
 
 def main():
-    numbers = {"most": MOST, "all": MOST_IN_ALL, "functions": MOST_FUNCTIONS, "bodies": WRONG_BODIES}
+    numbers = {"most": MOST, "all": MOST_IN_ALL, "short": ", ".join(SHORT), "bodies": WRONG_BODIES}
     words = argparse.ArgumentParser(description=__doc__.format(**numbers), formatter_class=argparse.RawDescriptionHelpFormatter)
     words.add_argument("--try", action="store_true", dest="tries", help="have edits tried")
     words.add_argument("--all", action="store_true", help="those in must-fail too")
