@@ -1,5 +1,5 @@
 -- What is known of an object's members, as more are read.
-use Rattle.std.proofs.Common.{◌≡◌, ℕ, List, Bool, Some, Result, Ok, true, false, bytes_eq, ◌||◌, codes, refl, sym, ap, ◌∙◌, subst, cond, if◌then◌else◌}
+use Rattle.std.proofs.Common.{◌≡◌, ℕ, List, Bool, Some, Result, Ok, Err, true, false, bytes_eq, ◌||◌, codes, refl, sym, ap, ◌∙◌, subst, cond, if◌then◌else◌}
 use Rattle.std.proofs.lemmas.Slice.Eq.{bytes_eq-Decides}
 use Rattle.json.specs.Json.{Json, Members}
 use Rattle.json.specs.Find.{get_member}
@@ -7,8 +7,10 @@ use Rattle.reading.specs.Types.{geometry_named}
 use Rattle.reading.specs.declared.geometry.GeometryType.{GeometryType}
 use Rattle.reading.specs.declared.geometry.GeometryType.TheVariants.{Point, MultiPoint, LineString, MultiLineString, Polygon, MultiPolygon}
 use Rattle.decimal_maps.specs.Geometries.{kind_name}
-use Rattle.decimal_maps.specs.Members.{KnowsMember, LookupMeans}
+use Rattle.decimal_maps.specs.Members.{KnowsMember, LookupMeans, type_name}
 use Rattle.decimal_maps.specs.Reads.{then_member}
+use Rattle.decimal_maps.specs.declared.kind.Kind.{Kind}
+use Rattle.decimal_maps.specs.declared.kind.Kind.TheVariants.{FeatureCollection, Feature, GeometryCollection, Simple}
 use Rattle.decimal_maps.specs.declared.object.Lookup.{Lookup}
 use Rattle.decimal_maps.specs.declared.object.Lookup.TheVariants.{Missing, Skipped, Read}
 use Rattle.decimal_maps.proofs.Looping.{get_then}
@@ -67,3 +69,15 @@ name_is s k =
     (pick P s (codes "MultiLineString") MultiLineString k _ (λ e. e)
     (pick P s (codes "Polygon") Polygon k _ (λ e. e)
     (pick P s (codes "MultiPolygon") MultiPolygon k _ (λ e. e) (λ e. cc))))))
+
+-- a text by which no type is found names none
+pub unnamed : (s : List ℕ) (e : _) → false ≡ bytes_eq s (codes "FeatureCollection") → false ≡ bytes_eq s (codes "Feature") → false ≡ bytes_eq s (codes "GeometryCollection") → geometry_named s ≡ Err e → (k : Kind) → ¬ (s ≡ type_name k)
+unnamed s e fc f gc g FeatureCollection is = let no : false ≡ true = fc ∙ ap (λ t. bytes_eq t (codes "FeatureCollection")) is in cc
+unnamed s e fc f gc g Feature is = let no : false ≡ true = f ∙ ap (λ t. bytes_eq t (codes "Feature")) is in cc
+unnamed s e fc f gc g GeometryCollection is = let no : false ≡ true = gc ∙ ap (λ t. bytes_eq t (codes "GeometryCollection")) is in cc
+unnamed s e fc f gc g (Simple Point) is = let no : Err e ≡ Ok Point = sym g ∙ ap geometry_named is in cc
+unnamed s e fc f gc g (Simple MultiPoint) is = let no : Err e ≡ Ok MultiPoint = sym g ∙ ap geometry_named is in cc
+unnamed s e fc f gc g (Simple LineString) is = let no : Err e ≡ Ok LineString = sym g ∙ ap geometry_named is in cc
+unnamed s e fc f gc g (Simple MultiLineString) is = let no : Err e ≡ Ok MultiLineString = sym g ∙ ap geometry_named is in cc
+unnamed s e fc f gc g (Simple Polygon) is = let no : Err e ≡ Ok Polygon = sym g ∙ ap geometry_named is in cc
+unnamed s e fc f gc g (Simple MultiPolygon) is = let no : Err e ≡ Ok MultiPolygon = sym g ∙ ap geometry_named is in cc

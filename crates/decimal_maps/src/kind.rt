@@ -2,7 +2,7 @@
 ghost use Rattle.decimal_maps.specs.Members.{type_name};
 ghost use Rattle.decimal_maps.specs.Reads.{Gives};
 ghost use Rattle.json.specs.Json.{string};
-ghost use Rattle.std.specs.Prelude.{◌≡◌, ℕ, IfOk, IfSome};
+ghost use Rattle.std.specs.Prelude.{◌≡◌, ℕ, IfNone, IfOk, IfSome};
 
 use crate::from_tokens::Stop;
 use json::{Reader, Token};
@@ -20,8 +20,10 @@ pub enum Kind {
 
 impl Kind {
     /// The type of that name.
+    #[tactic(auto, using(crate::proofs::Naming::unnamed))]
     pub fn from_name(text: &str) -> Option<Kind>
-        ensures { IfSome result (λ k. text.now ≡ type_name k) }
+        ensures named { IfSome result (λ k. text.now ≡ type_name k) }
+        ensures unknown { IfNone result ((k : Kind) → ¬ (text.now ≡ type_name k)) }
     {
         if text == "FeatureCollection" {
             return Some(Kind::FeatureCollection);

@@ -8,4 +8,4 @@ returns-in-Some c depth =
     let text = c.in-Some-String.text.now in
     let new = c.next.new.self in
     let is : c.args.reader.now ≡ string text ∷ new = grind arith in
-    string_gives depth c.args.reader.now new _ (is ∙ ap (λ s. string s ∷ new) c.in-Some.ensures)
+    string_gives depth c.args.reader.now new _ (is ∙ ap (λ s. string s ∷ new) c.in-Some.ensures.named)
