@@ -26,17 +26,16 @@ impl Kind {
         ensures unknown { IfNone result ((k : Kind) → ¬ (text.now ≡ type_name k)) }
     {
         if text == "FeatureCollection" {
-            return Some(Kind::FeatureCollection);
-        }
-        if text == "Feature" {
-            return Some(Kind::Feature);
-        }
-        if text == "GeometryCollection" {
-            return Some(Kind::GeometryCollection);
-        }
-        match GeometryType::from_name(text) {
-            Ok(kind) => Some(Kind::Simple(kind)),
-            Err(_) => None,
+            Some(Kind::FeatureCollection)
+        } else if text == "Feature" {
+            Some(Kind::Feature)
+        } else if text == "GeometryCollection" {
+            Some(Kind::GeometryCollection)
+        } else {
+            match GeometryType::from_name(text) {
+                Ok(kind) => Some(Kind::Simple(kind)),
+                Err(_) => None,
+            }
         }
     }
 }

@@ -15,7 +15,7 @@ use Rattle.faults.specs.declared.fault.FaultKind.TheVariants.{UnknownType}
 use Rattle.fixing.specs.declared.rules.FixingRules.{FixingRules}
 use Rattle.reading.specs.Fault.{under, unless_faulty}
 use Rattle.reading.specs.FaultLists.Found.{pairs_of}
-use Rattle.reading.specs.Parts.{named, of_type, typed_faults}
+use Rattle.reading.specs.Parts.{named, of_type}
 use Rattle.reading.proofs.Faultless.{first_none, second_none, under_none, unless_none}
 use Rattle.decimal_faults.specs.Parts.{member_faults, type_text}
 use Rattle.decimal_arcs.specs.Arcs.{arcs_faults, arcs_of}
@@ -26,7 +26,6 @@ use Rattle.decimal_arcs.specs.Seen.{Arcs}
 use Rattle.decimal_arcs.specs.Transforms.{quantization_of, transform_faults}
 use Rattle.decimal_arcs.specs.declared.place.Quantization.{Quantization}
 use Rattle.decimal_topologies.specs.declared.rules.TopologyRules.{TopologyRules}
-use Rattle.decimal_topologies.proofs.Faulty.{object_none, object_some}
 
 pub count_is : (vs : List (Value Global)) → length vs ≡ count_of (items_view vs)
 count_is [] = refl
@@ -57,17 +56,6 @@ text_is j u e = go (type_text j) refl e
     go (Ok s) is e = is ∙ ap Ok (same s (bytes_eq s (codes "Topology")) refl e)
 
 module _ (rules : TopologyRules) (fixing : FixingRules) (j : Json) where
-  pub faulty_members : (u : Unit {0}) → root_type j ≡ Ok u → topology_members_faults rules fixing j ≢ [] → topology_faults rules fixing j ≢ []
-  faulty_members u e faulty n =
-      faulty (sym (ap (typed_faults (λ t. topology_members_faults rules fixing j)) e) ∙ (sym (object_some _ (as_object j) (typed_object j u e)) ∙ n))
-
-  pub faulty_root : (k : FaultKind) → root_type j ≡ Err k → topology_faults rules fixing j ≢ []
-  faulty_root k e n = go (is_some (as_object j)) refl
-    where
-      go : (b : Bool) → is_some (as_object j) ≡ b → ⊥
-      go true some = let m = sym (ap (typed_faults (λ t. topology_members_faults rules fixing j)) e) ∙ (sym (object_some _ (as_object j) some) ∙ n) in cc
-      go false other = let m = sym (object_none (typed_faults (λ t. topology_members_faults rules fixing j) (root_type j)) (as_object j) other) ∙ n in cc
-
   -- ---- members
 
   pub faulty_transform : transform_faults j ≢ [] → topology_members_faults rules fixing j ≢ []

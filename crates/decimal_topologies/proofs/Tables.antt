@@ -1,7 +1,7 @@
 -- Arcs of the table, and the places along them.
-use Rattle.std.proofs.Common.{◌≡◌, ℕ, ◌+◌, ◌-◌, ◌<◌, Bool, true, false, length, get_or, drop, reverse, List, ◌∷◌, Option, Some, slice_get, Vec, refl, sym, ap, ◌∙◌, arith}
-use Rattle.std.proofs.lemmas.List.{drop_more, get_or-reverse, length-map, length-reverse}
-use Rattle.std.proofs.lemmas.Option.{get_or_from_slice_get, slice_get-get_or, slice_get_within}
+use Rattle.std.proofs.Common.{◌≡◌, ℕ, ◌+◌, Bool, true, false, length, drop, reverse, List, ◌∷◌, Option, Some, slice_get, Vec, refl, sym, ap, ◌∙◌, arith}
+use Rattle.std.proofs.lemmas.List.{drop_more, length-map, length-reverse}
+use Rattle.std.proofs.lemmas.Option.{get_or_from_slice_get, slice_get_within}
 use Rattle.std.specs.declared.alloc.Global.{Global}
 use Rattle.decimal_arcs.specs.Seen.{seen_arcs}
 use Rattle.decimal_topologies.specs.Stitching.{directed}
@@ -17,14 +17,6 @@ seen-length ts = length-map ts _
 pub directed-length : (b : Bool) (ps : List Place) → length (directed b ps) ≡ length ps
 directed-length false ps = refl
 directed-length true ps = length-reverse ps
-
--- the place of an index, backwards
-pub backwards_at : (ps : List Place) (i : ℕ) (p : Place) → i < length ps → p ≡ get_or ps (length ps - 1 - i) p → slice_get (reverse ps) i ≡ Some p
-backwards_at ps i p less is =
-    slice_get-get_or (reverse ps) i p (omega (arith, length-reverse ps)) ∙ ap Some (get_or-reverse ps i p less ∙ sym is)
-
-pub forwards_at : (ps : List Place) (i : ℕ) (p : Place) → i < length ps → p ≡ get_or ps i p → slice_get ps i ≡ Some p
-forwards_at ps i p less is = slice_get-get_or ps i p less ∙ ap Some (sym is)
 
 -- the places from an index on begin with that one
 pub dropped : (ps : List Place) (i : ℕ) (p : Place) → slice_get ps i ≡ Some p → drop i ps ≡ p ∷ drop (i + 1) ps
