@@ -7,6 +7,8 @@ use Rattle.faults.specs.declared.fault.FaultKind.TheVariants.{OtherGrid as Anoth
 use Rattle.sinks.specs.PathText.PathText.{path_text}
 use Rattle.command_line.specs.declared.status.Status.{Status}
 use Rattle.command_line.specs.declared.status.Status.TheVariants.{Usage as WrongUsage, Unreadable as UnreadableFile, Refused, OutOfMemory as NoMemory, Write as OutputFailed}
+use Rattle.command_line.specs.declared.files.OutputFault.{OutputFault}
+use Rattle.command_line.specs.declared.files.OutputFault.TheVariants as output
 use Rattle.command_line.specs.declared.refusal.Usage.{Usage as UsageFault}
 use Rattle.command_line.specs.declared.refusal.Usage.TheVariants.{BadGrid, BadSteps, BadLayer, InputTwice, NoId, SameIds, BadStep, BadUnits, BadUnit, BadReals, BadScale, BadNumbers, BadDistance, BadQuantize, BadBack, BadReport, NoFolder, NameTwice, BadName, NameForMany}
 use Rattle.command_line.specs.declared.refusal.Remedy.{Remedy}
@@ -25,6 +27,12 @@ status_of (NoLayer layer) = Refused
 status_of BadPlan = Refused
 status_of OutOfMemory = NoMemory
 status_of Write = OutputFailed
+
+-- the refusal where a file can't be written
+abbrev pub refusal_of_output : OutputFault → Refusal
+refusal_of_output output.IsThere = Write
+refusal_of_output output.Unwritable = Write
+refusal_of_output output.OutOfMemory = OutOfMemory
 
 -- what is wrong with the words of a command line
 abbrev pub usage_words : UsageFault → List ℕ

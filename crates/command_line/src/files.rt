@@ -1,4 +1,7 @@
 //! The files that a command reads, and the one that it writes.
+ghost use Rattle.command_line.specs.declared.files.OutputFault.TheVariants as output;
+ghost use Rattle.std.specs.Prelude.{◌≡◌};
+
 use crate::refusal::{Refusal, Usage};
 use sinks::Refused;
 use std::alloc::{AllocError, Global};
@@ -33,6 +36,8 @@ pub enum OutputFault {
 }
 
 impl From<AllocError> for OutputFault {
+    ghost from_gives = { λ _ fault. fault ≡ output.OutOfMemory };
+
     fn from(_error: AllocError) -> OutputFault {
         OutputFault::OutOfMemory
     }

@@ -1,5 +1,6 @@
 //! How a command says that it did not do its work: an exit status and a line on standard error.
-ghost use Rattle.command_line.specs.Refusal.{encoding_words, fault_text, kind_text, line_text, reason_text, remedy_words, status_of, usage_end, usage_name, usage_words};
+ghost use Rattle.command_line.specs.Refusal.{encoding_words, fault_text, kind_text, line_text, reason_text, refusal_of_output, remedy_words, status_of, usage_end, usage_name, usage_words};
+ghost use Rattle.command_line.specs.declared.refusal.Refusal.TheVariants as refusal;
 ghost use Rattle.faults.specs.declared.fault.FaultKind.TheVariants.{NoLayer as MissingLayer, OtherGrid as AnotherGrid};
 ghost use Rattle.sinks.specs.Writes.{TookAll, TookPart};
 ghost use Rattle.std.specs.Prelude.{◌≡◌, ◌++◌, OnErr, OnOk, codes, decimal};
@@ -225,30 +226,40 @@ impl<'a> Written for Refusal<'a> {
 }
 
 impl<'a> From<AllocError> for Refusal<'a> {
+    ghost from_gives = { λ _ r. r ≡ refusal.OutOfMemory };
+
     fn from(_error: AllocError) -> Refusal<'a> {
         Refusal::OutOfMemory
     }
 }
 
 impl<'a, T: Drop> From<AllocFailed<T>> for Refusal<'a> {
+    ghost from_gives = { λ _ r. r ≡ refusal.OutOfMemory };
+
     fn from(_failed: AllocFailed<T>) -> Refusal<'a> {
         Refusal::OutOfMemory
     }
 }
 
 impl<'a> From<OutOfMemory> for Refusal<'a> {
+    ghost from_gives = { λ _ r. r ≡ refusal.OutOfMemory };
+
     fn from(_fault: OutOfMemory) -> Refusal<'a> {
         Refusal::OutOfMemory
     }
 }
 
 impl<'a> From<WriteFault> for Refusal<'a> {
+    ghost from_gives = { λ _ r. r ≡ refusal.Write };
+
     fn from(_fault: WriteFault) -> Refusal<'a> {
         Refusal::Write
     }
 }
 
 impl<'a> From<OutputFault> for Refusal<'a> {
+    ghost from_gives = { λ fault r. r ≡ refusal_of_output fault };
+
     fn from(fault: OutputFault) -> Refusal<'a> {
         match fault {
             OutputFault::OutOfMemory => Refusal::OutOfMemory,
