@@ -88,12 +88,6 @@ fn geometries_at<'a>(layers: &'a [Layer], number: Option<usize>) -> &'a [Geom]
     }
 }
 
-fn on_one_grid(old: &Topology, new: &Topology) -> bool
-    ensures { (result ≡ true) ↔ (old.now.grid ≡ new.now.grid) }
-{
-    old.grid() == new.grid()
-}
-
 /// The new arcs, and the layers of both sides by them.
 fn comparison_by(
     alloc: Global,
@@ -141,7 +135,7 @@ pub fn compare(alloc: Global, old: &Topology, new: &Topology) -> Result<Comparis
     ensures compared { IfOk result (λ c. (m n : Layers) → IsOf m old.now → IsOf n new.now → IsComparisonOf m n c) }
     ensures other_grid { IsErrOf result OtherGrid ↔ ¬ (old.now.grid ≡ new.now.grid) }
 {
-    if !on_one_grid(old, new) {
+    if !old.is_on_grid_of(new) {
         return Err(CompareFault::OtherGrid);
     }
     let comparison = recut_both(alloc, old, new)?;

@@ -274,12 +274,6 @@ fn unite(alloc: Global, left: Topology, right: Topology) -> Result<Topology, Out
     Ok(Topology::from_parts_without_bbox(grid, arcs, layers))
 }
 
-pub(crate) fn on_one_grid(left: &Topology, right: &Topology) -> bool
-    ensures { (result ≡ true) ↔ (left.now.grid ≡ right.now.grid) }
-{
-    left.grid() == right.grid()
-}
-
 /// The topology of the features of both, which stay. It shares the positions of arcs that are not cut.
 ///
 /// # Errors
@@ -295,7 +289,7 @@ pub(crate) fn join_topologies(
     ensures few { IfOk result (λ t. length t.arcs.arcs < 2 ^ 63) }
     ensures other_grid { IsErrOf result OtherGrid ↔ ¬ (left.now.grid ≡ right.now.grid) }
 {
-    if !on_one_grid(left, right) {
+    if !left.is_on_grid_of(right) {
         return Err(JoinFault::OtherGrid);
     }
     let topology = unite(alloc, left.share(alloc)?, right.share(alloc)?)?;
@@ -370,7 +364,7 @@ pub(crate) fn join_shards_owned(alloc: Global, left: Cut, right: Cut) -> Result<
     ensures map { IfOk result (λ s. s.map ≡ union left.map right.map) }
     ensures other_grid { IsErrOf result OtherGrid ↔ ¬ (left.grid ≡ right.grid) }
 {
-    if !on_one_grid(left.topology(), right.topology()) {
+    if !left.topology().is_on_grid_of(right.topology()) {
         return Err(JoinFault::OtherGrid);
     }
     let topology = unite(alloc, left.topology, right.topology)?;

@@ -21,7 +21,6 @@ ghost use Rattle.topo.specs.GeometryOrder.{HaveFeatures};
 ghost use Rattle.topo.specs.OfMap.{IsOf};
 ghost use Rattle.topo.specs.UsedArcs.{layer_refs, layers_refs};
 
-use crate::cut::on_one_grid;
 use crate::difference::layers_without;
 use crate::fault::JoinFault;
 use arcs::ArcMarks;
@@ -418,7 +417,7 @@ pub fn remove_topology(
     ensures few { IfOk result (λ r. length r.topology.arcs.arcs < 2 ^ 63) }
     ensures other_grid { IsErrOf result OtherGrid ↔ ¬ (topology.now.grid ≡ removed.now.grid) }
 {
-    if !on_one_grid(topology, removed) {
+    if !topology.is_on_grid_of(removed) {
         return Err(JoinFault::OtherGrid);
     }
     let left = layers_without(alloc, topology, removed)?;
