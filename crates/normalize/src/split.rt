@@ -130,7 +130,7 @@ impl Split {
             return Ok(None);
         };
         let map = map_of_arcs(alloc, arcs, layers)?;
-        let (table, built) = Topology::build(alloc, &grid, &map)?.into_parts();
+        let (table, built) = Topology::build_owned(alloc, &grid, map)?.into_parts();
         let pieces = all_pieces(alloc, &table, arcs, first_geometries(&built))?;
         Ok(Some(Split { table, pieces }))
     }

@@ -51,7 +51,7 @@ fn build_topology(
     ensures none { IfOk result (λ o. IfNone o (AreFaultyParts grid.now arcs.now layers.items)) }
 {
     match map_of_parts(alloc, arcs, layers)? {
-        Some(map) => Ok(Some(Topology::build(alloc, grid, &map)?)),
+        Some(map) => Ok(Some(Topology::build_owned(alloc, grid, map)?)),
         None => Ok(None),
     }
 }
@@ -141,7 +141,7 @@ fn built_of_value(alloc: Global, bytes: &[u8]) -> Result<Topology, Fault>
     ensures err { IfErr result (λ f. LeastOrWant (faults_of_text bytes.now) f) }
 {
     let (grid, map) = read(alloc, bytes)?;
-    match Topology::build(alloc, &grid, &map) {
+    match Topology::build_owned(alloc, &grid, map) {
         Ok(topology) => Ok(topology),
         Err(OutOfMemory) => Err(Fault::here(alloc, FaultKind::OutOfMemory)),
     }
