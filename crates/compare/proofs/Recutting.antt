@@ -13,6 +13,7 @@ use Rattle.shapes.specs.Maps.{Features, Layers, features_at}
 use Rattle.shapes.specs.Order.{feature_cmp}
 use Rattle.shapes.specs.OrderLaws.{feature_cmp_total, one_spelled, same_text}
 use Rattle.shapes.specs.Parts.{properties_text, spelled_text}
+use Rattle.shapes.specs.PropertyValues.{property_text}
 use Rattle.shapes.specs.SetLaws.{items-from_list}
 use Rattle.shapes.specs.Sets as set
 use Rattle.shapes.specs.Union.{union}
@@ -45,7 +46,7 @@ use Rattle.topo.proofs.LayerLawsLemmas.RecutGeometries.{layers_after_recut}
 use Rattle.topo.proofs.LayerLawsLemmas.UnitedGeometry.{geometries_unite}
 use Rattle.compare.specs.Compared.{AreInOrder, IsComparisonOf, IsDifferenceByProperty, IsListedLayer, IsNumberOf, IsPairOf, feature_id, geometries_from, geometries_in, name_of}
 use Rattle.compare.specs.Differences.{IsDifference}
-use Rattle.compare.specs.Keyed.{AreKeys, IsKey, feature_key, id_of, key_text}
+use Rattle.compare.specs.Keyed.{AreKeys, IsKey, feature_key, id_of}
 use Rattle.compare.specs.Pairing.{IsPairing}
 use Rattle.compare.specs.Placed.{IsDifferenceAt}
 use Rattle.compare.specs.declared.comparison.Comparison.{Comparison}
@@ -174,7 +175,7 @@ keyed_by_values g arcs name [] (a ∷ gs) ks p q = absurd p
 keyed_by_values g arcs name (f ∷ fs) [] ks p q = absurd p
 keyed_by_values g arcs name (f ∷ fs) (a ∷ gs) [] p q = absurd q
 keyed_by_values g arcs name (f ∷ fs) (a ∷ gs) (k ∷ ks) p q =
-    (subst (λ w. IsKey (key_text name (properties_text w)) k) (sym (ap (λ w. w.1) p.0.info)) q.0, keyed_by_values g arcs name fs gs ks p.1 q.1)
+    (subst (λ w. IsKey (property_text name (properties_text w)) k) (sym (ap (λ w. w.1) p.0.info)) q.0, keyed_by_values g arcs name fs gs ks p.1 q.1)
 
 one_key : (a b : Option (List ℕ)) (x y : Id) → IsKey a x → IsKey b y → (a ≡ b) ↔ (x ≡ y)
 one_key None None x y k l = ((λ _. k ∙ sym l), (λ _. refl))

@@ -17,7 +17,7 @@ use crate::fault::DifferenceFault;
 use crate::geometry::{GeometryChange, is_turned};
 use crate::members::{MemberChange, member_changes};
 use crate::vertices::PassedPoints;
-use compare::{Changed, Comparison, LayerDifference, LayerPair, compare, property_text};
+use compare::{Changed, Comparison, LayerDifference, LayerPair, compare};
 use faults::OutOfMemory;
 use std::alloc::{AllocError, Global};
 use topo::{Geom, Layer, Topology};
@@ -300,7 +300,7 @@ impl<'a> BothLayers<'a> {
     /// The compact text of a feature's key, where features pair by a property that it has.
     fn key_of(&self, alloc: Global, geometry: &Geom) -> Result<Option<String>, OutOfMemory> {
         match self.key {
-            Some(name) => property_text(alloc, &geometry.props, name),
+            Some(name) => geometry.props.value_text(alloc, name),
             None => Ok(None),
         }
     }

@@ -12,7 +12,6 @@ pub mod Choosing
 pub mod Holding
 pub mod Asked
 pub mod Classes
-pub mod Values
 pub mod Using
 pub mod Meshing
 pub mod Vertices

@@ -1,5 +1,5 @@
 //! The points, lines and rings of a geometry.
-ghost use Rattle.shapes.specs.Forms.{lines_in, parts_in, points_in, rings_in};
+ghost use Rattle.shapes.specs.Forms.{lines_in, parts_in, points_in, polygons_in, rings_in};
 ghost use Rattle.std.specs.Iterator.{YieldsFirstRef, item_count};
 ghost use Rattle.std.specs.Prelude.{◌≡◌};
 
@@ -12,7 +12,6 @@ use std::slice;
 /// Lines or rings of a geometry, one after the other.
 #[derive(Drop)]
 pub struct FormParts<'a, T> {
-    first: Option<&'a T>,
     parts: &'a [T],
     groups: &'a [Items<T>],
 }
@@ -27,18 +26,6 @@ impl<'a, T> Model for FormParts<'a, T> {
     ghost view = { parts_left };
 }
 
-impl<'a, T> FormParts<'a, T> {
-    fn of_list(parts: &'a [T]) -> FormParts<'a, T>
-        ensures { result ≡ parts.now }
-    {
-        FormParts {
-            first: None,
-            parts,
-            groups: &[],
-        }
-    }
-}
-
 impl<'a, T> Iterator for FormParts<'a, T> {
     type Item = &'a T;
 
@@ -47,9 +34,6 @@ impl<'a, T> Iterator for FormParts<'a, T> {
     ghost remaining = { item_count (λ left. left) };
 
     fn next(&mut self) -> Option<&'a T> {
-        if let Some(first) = self.first.take() {
-            return Some(first);
-        }
         loop {
             if let Some((part, rest)) = self.parts.split_first() {
                 self.parts = rest;
@@ -76,18 +60,35 @@ impl<L, R> Form<L, R> {
         }
     }
 
+    /// The lines as a list; none of other kinds.
+    pub fn line_slice(&self) -> &[L]
+        ensures { result.now ≡ lines_in self.now }
+    {
+        match self {
+            Form::Line(line) => slice::from_ref(line),
+            Form::MultiLine(lines) => lines.as_slice(),
+            _ => &[],
+        }
+    }
+
+    /// The polygons, each as the list of its rings; none of other kinds.
+    pub fn polygons(&self) -> &[Items<R>]
+        ensures { result.now ≡ polygons_in self.now }
+    {
+        match self {
+            Form::Polygon(rings) => slice::from_ref(rings),
+            Form::MultiPolygon(polygons) => polygons.as_slice(),
+            _ => &[],
+        }
+    }
+
     /// The lines, in order; none of other kinds.
     pub fn lines(&self) -> FormParts<'_, L>
         ensures { result ≡ lines_in self.now }
     {
-        match self {
-            Form::Line(line) => FormParts {
-                first: Some(line),
-                parts: &[],
-                groups: &[],
-            },
-            Form::MultiLine(lines) => FormParts::of_list(lines.as_slice()),
-            _ => FormParts::of_list(&[]),
+        FormParts {
+            parts: self.line_slice(),
+            groups: &[],
         }
     }
 
@@ -95,14 +96,9 @@ impl<L, R> Form<L, R> {
     pub fn rings(&self) -> FormParts<'_, R>
         ensures { result ≡ rings_in self.now }
     {
-        match self {
-            Form::Polygon(rings) => FormParts::of_list(rings.as_slice()),
-            Form::MultiPolygon(polygons) => FormParts {
-                first: None,
-                parts: &[],
-                groups: polygons.as_slice(),
-            },
-            _ => FormParts::of_list(&[]),
+        FormParts {
+            parts: &[],
+            groups: self.polygons(),
         }
     }
 }
