@@ -1,5 +1,5 @@
 -- Which arcs are free loops.
-use Rattle.std.proofs.Common.{◌≡◌, ℕ, zero, suc, Bool, true, false, List, [], ◌∷◌, map, inl, inr, refl, sym, ap, ◌∙◌, subst, Some, slice_get}
+use Rattle.std.proofs.Common.{◌≡◌, ℕ, zero, suc, Bool, true, false, List, [], ◌∷◌, ◌++◌, map, inl, inr, refl, sym, ap, ◌∙◌, subst, Some, slice_get}
 use Rattle.std.specs.List.Sorted.{IsPermutation}
 use Rattle.std.proofs.lemmas.List.Sorted.{IsPermutation-sym}
 use Rattle.std.specs.Option.{option_map}
@@ -7,7 +7,7 @@ use Rattle.std.specs.declared.cmp.Ordering.TheVariants.{Less}
 use Rattle.theory.specs.Arcs.{Ascends, AreSortedOnce}
 use Rattle.theory.specs.Chain.{Free}
 use Rattle.theory.specs.TopologyFunction.{keep}
-use Rattle.theory.specs.Lists.{Has}
+use Rattle.theory.specs.Lists.{Has, gathered}
 use Rattle.theory.proofs.Ascending.{less_self}
 use Rattle.theory.proofs.ListsOfLists.{Has-map, get_has, map_has}
 use Rattle.theory.proofs.Turning.{keep_has, has_keep}
@@ -18,7 +18,7 @@ use Rattle.lines.specs.Turned.{list_cmp}
 use Rattle.arcs.specs.Among.{Tells}
 use Rattle.arcs.specs.Pieces.{chain_of}
 use Rattle.arcs.specs.Arcs.{Arcs}
-use Rattle.arcs.specs.Stored.{positions_of, is_marked, stored_of, loops_of, rises, merged}
+use Rattle.arcs.specs.Stored.{positions_of, marked_positions, is_marked, stored_of, loops_of, rises, merged}
 use Rattle.arcs.specs.Table.{is_loop, is_loop_if, free_at, number_in, AreAlike, AreLoopsOf}
 use Rattle.arcs.specs.declared.piece.Piece.{Piece}
 use Rattle.arcs.specs.declared.stored.StoredArc.{StoredArc}
@@ -73,6 +73,20 @@ pub free_told : (l : List StoredArc) → rises (map positions_of l) ≡ true →
 free_told l r n a e =
     mark_of l (ascends_rising (map positions_of l) r) a (get_has l n a e)
     ∙ ap (is_loop_if (loops_of l)) (sym (get_mapped positions_of l n ∙ ap (option_map positions_of) e))
+
+marks_told : (f : List Pos → Bool) (l : List StoredArc) → ((a : StoredArc) → Has a l → a.free ≡ f a.positions) →
+    map marked_positions l ≡ map (λ c. (c, f c)) (map positions_of l)
+marks_told f [] h = refl
+marks_told f (a ∷ l) h = λ i. (a.positions, h a (inl refl) i) ∷ marks_told f l (λ b k. h b (inr k)) i
+
+-- the marks of all arcs
+pub all_told : (l : List StoredArc) → rises (map positions_of l) ≡ true → map marked_positions l ≡ map (λ c. (c, is_loop (loops_of l) c)) (map positions_of l)
+all_told l r = marks_told (is_loop (loops_of l)) l (mark_of l (ascends_rising (map positions_of l) r))
+
+-- what is gathered of members that were made of others
+pub gathered_map : {A B C : Type 0} (f : B → List C) (g : A → B) (l : List A) → gathered f (map g l) ≡ gathered (λ x. f (g x)) l
+gathered_map f g [] = refl
+gathered_map f g (x ∷ l) = ap (λ w. f (g x) ++ w) (gathered_map f g l)
 
 -- the table of sorted pieces
 module _ (ps sorted : List Piece) (same : IsPermutation ps sorted) where

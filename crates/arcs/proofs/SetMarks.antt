@@ -109,17 +109,6 @@ told_once n us e = (unmarked_once (replicate n false) us e).0
 pub once_told : (n : ℕ) (us : List ArcRef) → UsesOnce us → ((k : ℕ) → Uses k us → k < n) → each_unmarked (replicate n false) us ≡ true
 once_told n us o h = once_unmarked (replicate n false) us o (λ k u. get_or-replicate n k false true (h k u))
 
--- a step of marking
-pub mark_step : (b c : Bool) (bs : List Bool) (a : ArcRef) (us : List ArcRef) (all : Bool) → cond b (each_unmarked bs (a ∷ us)) false ≡ all →
-    c ≡ cond (get_or bs a.arc true) false b → cond c (each_unmarked (set bs a.arc true) us) false ≡ all
-mark_step b c bs a us all e f = ap (λ w. cond w (each_unmarked (set bs a.arc true) us) false) f ∙ go b (get_or bs a.arc true) ∙ e
-  where
-    go : (b m : Bool) → cond (cond m false b) (each_unmarked (set bs a.arc true) us) false ≡ cond b (cond m false (each_unmarked (set bs a.arc true) us)) false
-    go true true = refl
-    go true false = refl
-    go false true = refl
-    go false false = refl
-
 -- those of two lists, one after the other
 pub marks_join : (bs : List Bool) (us vs : List ArcRef) → marks_set true bs (us ++ vs) ≡ marks_set true (marks_set true bs us) vs
 marks_join bs [] vs = refl

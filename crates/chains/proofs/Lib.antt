@@ -35,4 +35,3 @@ pub mod Siding
 pub mod ArcSegments
 pub mod Staying
 pub mod Paired
-pub mod ReplacedArcs

@@ -1,5 +1,5 @@
 -- The arcs of tables as lines and rings: what they visit, and the maps that have their segments and junctions.
-use Rattle.std.proofs.Common.{◌≡◌, ℕ, Bool, true, false, cond, not, List, [], ◌∷◌, ◌++◌, map, ◌⊎◌, inl, inr, refl, sym, ap, ◌∙◌, subst, Option, Some, None, slice_get, zero, suc, ◌+◌, ◌<◌, length, drop, append_assoc, arith}
+use Rattle.std.proofs.Common.{◌≡◌, ℕ, Bool, true, false, cond, not, List, [], ◌∷◌, ◌++◌, map, ◌⊎◌, inl, inr, refl, sym, ap, ◌∙◌, subst}
 use Rattle.theory.specs.Lists.{Has, EndOf, Between, gathered}
 use Rattle.theory.specs.LinesAndRings.{around, closed}
 use Rattle.theory.specs.Chain.{Free}
@@ -16,14 +16,13 @@ use Rattle.grid.specs.declared.pos.Pos.{Pos}
 use Rattle.lines.specs.Turned.{position_cmp}
 use Rattle.arcs.specs.Arcs.{Arcs}
 use Rattle.chains.specs.Index.{IsIndexOf, AreVisitsOf}
-use Rattle.chains.specs.OfArcs.{open_in, loops_in, tables_as_map, arc_ends, arc_visits, ends_if}
+use Rattle.chains.specs.OfArcs.{open_in, loops_in, tables_as_map, arc_ends, arc_visits}
 use Rattle.arcs.specs.Among.{Tells}
 use Rattle.arcs.specs.Table.{is_loop, is_loop_if, IsTableOf}
 use Rattle.chains.specs.Visits.{HaveSame, visit_of, inner_of, around_of, ends_of}
 use Rattle.chains.specs.declared.visits.Visit.{Visit}
 use Rattle.lines.specs.Positions.{position_total, position_same}
 use Rattle.lines.proofs.Positions.{position_dec}
-use Rattle.lines.proofs.Dropping.{drop_next}
 use Rattle.chains.proofs.Gathered.{Found, ends_has, has_ends, between_has, found_in}
 
 pub unclosed_rest : (c r : List Pos) (x : Pos) → c ≡ r ++ (x ∷ []) → unclosed c ≡ r
@@ -224,42 +223,3 @@ index_alike a u h js i = record {
   all = λ v j. i.all v (h.junctions_back v j);
   only = λ v k. h.junctions v (i.only v k);
 }
-
--- what f gives for the member, where there is one
-abbrev pub given : {A B : Type 0} → (A → List B) → Option A → List B
-given f None = []
-given f (Some x) = f x
-
-there : {A : Type 0} (l : List A) (i : ℕ) → i < length l → (x : A) × (slice_get l i ≡ Some x)
-there [] i h = absurd (omega arith)
-there (x ∷ l) zero h = (x, refl)
-there (x ∷ l) (suc i) h = there l i (omega (arith, h))
-
--- a step over the arcs
-pub left_step : {A B : Type 0} (f : A → List B) (l : List A) (i : ℕ) (before y : List B) → i < length l → y ≡ given f (slice_get l i) →
-    before ++ gathered f (drop i l) ≡ (before ++ y) ++ gathered f (drop (i + 1) l)
-left_step f l i before y h s =
-    let t = there l i h in
-    ap (λ w. before ++ gathered f w) (drop_next l i t.0 t.1)
-    ∙ ap (λ w. before ++ (w ++ gathered f (drop (i + 1) l))) (sym (s ∙ ap (given f) t.1))
-    ∙ sym (append_assoc before y (gathered f (drop (i + 1) l)))
-
--- what f gives for the member, where there is one, and otherwise d
-abbrev pub answered : {A B : Type 0} → B → (A → B) → Option A → B
-answered d f None = d
-answered d f (Some x) = f x
-
--- one more member mapped
-pub map_step : {A B : Type 0} (d : B) (f : A → B) (l : List A) (i : ℕ) (before now : List B) (y : B) (all : List B) → i < length l → y ≡ answered d f (slice_get l i) →
-    now ≡ before ++ (y ∷ []) → before ++ map f (drop i l) ≡ all → now ++ map f (drop (i + 1) l) ≡ all
-map_step d f l i before now y all h s e k =
-    let t = there l i h in
-    let z : y ≡ f t.0 = s ∙ ap (answered d f) t.1 in
-    ap (λ w. w ++ map f (drop (i + 1) l)) (e ∙ ap (λ w. before ++ (w ∷ [])) z)
-    ∙ append_assoc before (f t.0 ∷ []) (map f (drop (i + 1) l))
-    ∙ ap (λ w. before ++ map f w) (sym (drop_next l i t.0 t.1))
-    ∙ k
-
-pub ends_given : (loops : List (List Pos)) (o : Option (List Pos)) → ends_if loops o ≡ given (arc_ends loops) o
-ends_given loops None = refl
-ends_given loops (Some c) = refl

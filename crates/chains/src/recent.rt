@@ -2,7 +2,7 @@
 ghost use Rattle.chains.specs.Visits.{HaveSame};
 ghost use Rattle.std.specs.Prelude.{◌++◌, ◌∷◌, [], IfOk, OnOk};
 
-use arcs::marking::{first_mark, is_marked};
+use arcs::marking::first_mark;
 use arcs::piece::Piece;
 use arcs::table::ArcTable;
 use grid::pos::Pos;
@@ -48,10 +48,13 @@ pub(crate) fn count_in_map(map: &FeatureMap) -> usize {
 /// How many positions a table's marked arcs have.
 pub(crate) fn count_in_marked_arcs(table: &ArcTable, marks: &[bool]) -> usize {
     let mut count: usize = 0;
-    for number in 0..table.len() {
-        if is_marked(marks, number) {
-            count = count.saturating_add(table.arc(number).map_or(0, |arc| arc.len()));
+    let mut left = marks;
+    for arc in table.iter() {
+        let (marked, others) = first_mark(left);
+        if marked {
+            count = count.saturating_add(arc.len());
         }
+        left = others;
     }
     count
 }

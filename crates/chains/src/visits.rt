@@ -5,9 +5,9 @@ ghost use Rattle.arcs.specs.Among.{among};
 ghost use Rattle.arcs.specs.Extents.{within};
 ghost use Rattle.arcs.specs.Holding.{HoldAll};
 ghost use Rattle.chains.specs.Index.{IsIndexOf, EndsALine, AreVisitsOf, feature_ends, feature_visits, form_ends, form_visits};
-ghost use Rattle.chains.specs.OfArcs.{arc_ends, ends_if, tables_as_map};
+ghost use Rattle.chains.specs.OfArcs.{arc_ends, tables_as_map};
 ghost use Rattle.chains.specs.Seen.{form_of, geometry_of, seen};
-ghost use Rattle.chains.specs.VertexFilter.{KeepsClashes, StaysApart, StayWhole, arc_meets, arc_shared, may_hold, meets, meets_if, met_visits, shared_if};
+ghost use Rattle.chains.specs.VertexFilter.{KeepsClashes, StaysApart, StayWhole, arc_meets, arc_shared, may_hold, meets, met_visits};
 ghost use Rattle.arcs.specs.Table.{IsTableOf};
 ghost use Rattle.chains.specs.Visits.{visit_of, inner_of, ends_of, around_of, clash, clashes_of, HaveSame};
 ghost use Rattle.chains.specs.Noted.{visits_at, visits_noted};
@@ -17,7 +17,7 @@ ghost use Rattle.lines.specs.Pairs.{pair_of};
 ghost use Rattle.shapes.specs.Maps.{set_of};
 ghost use Rattle.shapes.specs.Sets as set;
 ghost use Rattle.std.specs.List.{list_any};
-ghost use Rattle.std.specs.Prelude.{◌≡◌, cond, [], ◌∷◌, ◌++◌, ◌↔◌, ◌⊎◌, map as map_list, slice_get, IfOk, IfSome, List, OnOk, IsTrue, Some};
+ghost use Rattle.std.specs.Prelude.{◌≡◌, cond, [], ◌∷◌, ◌++◌, ◌↔◌, ◌⊎◌, length, map as map_list, slice_get, IfOk, IfSome, List, OnOk, IsTrue, Some};
 ghost use Rattle.theory.specs.Geometry.{Geometry, IsSound, JunctionOf, SegmentOf};
 ghost use Rattle.theory.specs.Lists.{Has, gathered};
 ghost use Rattle.theory.specs.Refinement.{IsUnionOf, unclosed};
@@ -28,7 +28,7 @@ use crate::recent::{Recent, count_in_map, count_in_marked_arcs, dedup_recent, ke
 use crate::repeats::find_repeated;
 use crate::vertex_filter::{VertexFilter, inside};
 use arcs::Extent;
-use arcs::marking::is_marked;
+use arcs::marking::first_mark;
 use arcs::table::ArcTable;
 use faults::OutOfMemory;
 use grid::pos::Pos;
@@ -277,24 +277,6 @@ impl<'a> VisitsSeen<'a> {
         self.see_met(other, arc, free, near)
     }
 
-    fn see_numbered(
-        &mut self,
-        other: &VertexFilter,
-        table: &'a ArcTable,
-        number: usize,
-        near: bool,
-    ) -> Result<bool, AllocError>
-        requires { (c : List Pos) → slice_get table.now.arcs number ≡ Some c → StaysApart (may_hold other.now) c near }
-        ensures ends { OnOk result (self.new.ends.items ≡ self.old.ends.items ++ ends_if table.now.loops (slice_get table.now.arcs number)) }
-        ensures visits { OnOk result (HaveSame (visits_noted self.new) (visits_noted self.old ++ shared_if (may_hold other.now) table.now.loops (slice_get table.now.arcs number))) }
-        ensures met { IfOk result (λ b. b ≡ meets_if (may_hold other.now) table.now.loops (slice_get table.now.arcs number)) }
-    {
-        match table.arc(number) {
-            Some(arc) => self.see_arc(other, arc, table.is_free(number), near),
-            None => Ok(false),
-        }
-    }
-
     /// Notes the ends of a table's arcs, and the other visits of those of which the other table may
     /// have an inner vertex; and answers for each arc whether it may. It is given which arcs have a vertex
     /// in the other table's extent: of the others it may not.
@@ -311,8 +293,11 @@ impl<'a> VisitsSeen<'a> {
         ensures marks { IfOk result (λ v. v.items ≡ map_list (arc_meets (may_hold other.now) table.now.loops) table.now.arcs) }
     {
         let mut marks = Vec::with_capacity(alloc, table.len())?;
-        for number in 0..table.len() {
-            marks.push(self.see_numbered(other, table, number, is_marked(near, number))?)?;
+        let mut left = near;
+        for (arc, free) in table.with_loops() {
+            let (is_near, others) = first_mark(left);
+            marks.push(self.see_arc(other, arc, free, is_near)?)?;
+            left = others;
         }
         Ok(marks)
     }
@@ -475,6 +460,8 @@ impl VisitIndex {
         ensures union { IfOk result (λ i. (m n u : Geometry Pos) → IsSound m → IsSound n → IsTableOf m left.now → IsTableOf n right.now → IsUnionOf m n u → IsIndexOf i.index u) }
         ensures left { IfOk result (λ i. (m n : Geometry Pos) → IsSound m → IsSound n → IsTableOf m left.now → IsTableOf n right.now → StayWhole i.index left.now i.left.items) }
         ensures right { IfOk result (λ i. (m n : Geometry Pos) → IsSound m → IsSound n → IsTableOf m left.now → IsTableOf n right.now → StayWhole i.index right.now i.right.items) }
+        ensures left_marks { IfOk result (λ i. length i.left.items ≡ length left.now.arcs) }
+        ensures right_marks { IfOk result (λ i. length i.right.items ≡ length right.now.arcs) }
         ensures left_extent { IfOk result (λ i. HoldAll (within i.extent) left.now.arcs) }
         ensures right_extent { IfOk result (λ i. HoldAll (within i.extent) right.now.arcs) }
     {

@@ -2,13 +2,12 @@
 ghost use Rattle.normalize.specs.Lists as spec;
 ghost use Rattle.std.specs.Prelude.{◌≡◌, ◌≤◌, IfOk, length};
 
-use crate::pieces::replace_arcs;
 use crate::split::Split;
+use arcs::{NewLists, replace_arcs};
 use chains::ArcRef;
 use faults::OutOfMemory;
 use split_heal::HealedArcs;
 use std::alloc::Global;
-use topo::NewLists;
 
 /// The arcs of a text split, and healed again.
 #[derive(Drop)]

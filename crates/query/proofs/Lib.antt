@@ -19,7 +19,6 @@ pub mod Ending
 pub mod Halting
 pub mod NetworkMaps
 pub mod ChosenArcs
-pub mod Counting
 pub mod PartedAt
 pub mod Turns
 pub mod Texts

@@ -21,6 +21,7 @@ use Rattle.shapes.specs.declared.feature.Feature.{Feature}
 use Rattle.arcs.specs.Arcs.{Arcs}
 use Rattle.chains.specs.Seen.{geometry_of}
 use Rattle.arcs.specs.Table.{IsTableOf}
+use Rattle.theory.specs.ArcNumbers.{ArcRef}
 use Rattle.theory.specs.Geometry.{Geometry, IsSound, JunctionOf}
 use Rattle.theory.specs.Lists.{Pairwise}
 use Rattle.theory.specs.Refinement.{IsUnionOf}
@@ -38,7 +39,7 @@ use Rattle.topo.proofs.Pairs.{Pairwise-same}
 use Rattle.topo.proofs.Sound.{are_sound}
 use Rattle.topo.proofs.Stitched.{IsEntryOf, entries_of, feature_of}
 use Rattle.topo.specs.LayerLaws.CutLayers.{behind, layer_cmp, layer_recut, tied}
-use Rattle.topo.specs.LayerLaws.Cuts.{by_order}
+use Rattle.topo.specs.LayerLaws.Cuts.{by_order, geometry_recut}
 use Rattle.topo.specs.LayerLaws.Leaving.{from_on, is_first, layer_less, order_to, others}
 use Rattle.topo.proofs.LayerLawsLemmas.Ascending.{keys_ascend}
 use Rattle.topo.proofs.LayerLawsLemmas.JoinedLayers.{IsJoinedLayer, IsNewFor}
@@ -150,6 +151,10 @@ lists_on r g (h ∷ hs) = ap (λ w. cond (is_gt (by_lists r g h)) w (h ∷ hs)) 
 lists_first : (r : RecutParts) (g : Geom) (hs : List Geom) → is_first (geometry_cmp r.arcs.arcs) (cut_again r g) hs ≡ is_first (by_lists r) g hs
 lists_first r g [] = refl
 lists_first r g (h ∷ hs) = refl
+
+-- a geometry of the left side by the new arcs
+pub cut_left : (r : RecutParts) (t : Arcs) (pieces : List (List ArcRef)) (ours g : Geom) → t ≡ r.arcs → pieces ≡ r.left → ours ≡ geometry_recut t.arcs pieces g → ours ≡ cut_again r g
+cut_left r t pieces ours g e f h = h ∙ (λ i. geometry_recut (e i).arcs (f i) g)
 
 module _ (r : RecutParts) (a : Arcs) (ours g : Geom) (same : a ≡ r.arcs) (is : ours ≡ cut_again r g) (hs : List Geom) where
   pub on_by_lists : from_on (geometry_cmp a.arcs) ours hs ≡ from_on (by_lists r) g hs

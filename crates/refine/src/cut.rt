@@ -6,8 +6,8 @@ ghost use Rattle.topo.specs.LayerLaws.CutLayers.{before, behind, layer_cmp, laye
 ghost use Rattle.topo.specs.LayerLaws.Cuts as cuts;
 ghost use Rattle.topo.proofs.LayerLawsLemmas.ItsMap.{ItsMap, ItsMap-prop};
 ghost use Rattle.merging.specs.declared.fault.JoinFault.TheVariants.{OtherGrid};
-ghost use Rattle.split_heal.specs.SplitParts.{of_side};
 ghost use Rattle.shapes.specs.Maps.{Layers};
+ghost use Rattle.split_heal.specs.SplitParts.{of_side};
 ghost use Rattle.shapes.specs.Union.{union};
 ghost use Rattle.std.specs.Prelude.{◌≡◌, ◌↔◌, ◌<◌, ◌^◌, ◌++◌, length, IfOk, IfSome, IsErrOf, OnOk, Option, None, true, take, drop, map as map_list};
 ghost use Rattle.topo.specs.Features.{HasFeature};
@@ -16,7 +16,7 @@ ghost use Rattle.topo.specs.OfMap.{IsOf, IsOfSomeMap};
 ghost use Rattle.topo.specs.declared.geom.Geom.{Geom};
 
 use crate::fault::JoinFault;
-use chains::table::{ArcRef, ArcTable};
+use chains::table::ArcTable;
 use faults::OutOfMemory;
 use split_heal::{Recut, Side, recut_owned};
 use std::alloc::Global;
@@ -24,28 +24,7 @@ use std::cmp::Ordering;
 use std::collections::VecDeque;
 use std::marker::Model;
 use topo::geometry_order::GeometryOrder;
-use topo::{Geom, Layer, NewLists, Topology, layers_rewritten};
-
-/// The lists of a side by the new arcs.
-#[derive(Drop)]
-pub(crate) struct SideLists<'a> {
-    pub(crate) recut: &'a Recut,
-    pub(crate) side: Side,
-}
-
-impl NewLists for SideLists<'_> {
-    ghost line_of = { λ s. cuts.line_recut (of_side s.side s.recut.now) };
-
-    ghost ring_of = { λ s. cuts.ring_recut s.recut.now.arcs.arcs (of_side s.side s.recut.now) };
-
-    fn line(&self, alloc: Global, used: &[ArcRef]) -> Result<Vec<ArcRef>, OutOfMemory> {
-        self.recut.line(alloc, self.side, used)
-    }
-
-    fn ring(&self, alloc: Global, used: &[ArcRef]) -> Result<Vec<ArcRef>, OutOfMemory> {
-        self.recut.ring(alloc, self.side, used)
-    }
-}
+use topo::{Geom, Layer, Topology, layers_rewritten};
 
 /// The layers of a side by the new arcs.
 pub(crate) fn layers_recut(
@@ -56,7 +35,7 @@ pub(crate) fn layers_recut(
 ) -> Result<Vec<Layer>, OutOfMemory>
     ensures { IfOk result (λ v. v.items ≡ map_list (layer_recut recut.now.arcs.arcs (of_side side recut.now)) layers.items) }
 {
-    layers_rewritten(alloc, &SideLists { recut, side }, layers)
+    layers_rewritten(alloc, &recut.lists(side), layers)
 }
 
 /// The layers of both sides by the new arcs.

@@ -12,7 +12,7 @@ ghost use Rattle.topo.specs.Features.{HasFeature};
 ghost use Rattle.topo.specs.GeometryOrder.{HaveFeatures, LayersHaveFeatures, geometry_cmp};
 ghost use Rattle.topo.specs.OfMap.{IsOf};
 
-use crate::cut::{SideLists, layers_recut, order_to_first_geometry, put_layers_before};
+use crate::cut::{layers_recut, order_to_first_geometry, put_layers_before};
 use crate::remove::LayerLeft;
 use chains::ArcTable;
 use faults::OutOfMemory;
@@ -66,11 +66,7 @@ fn is_among(
     ensures rest { OnOk result (others.new.items ≡ from_on (by_lists both.now) geometry.now others.old.items) }
     ensures among { IfOk result (λ b. b ≡ is_first (by_lists both.now) geometry.now (from_on (by_lists both.now) geometry.now others.old.items)) }
 {
-    let side = SideLists {
-        recut: both,
-        side: Side::Left,
-    };
-    let ours = copy_rewritten(alloc, &side, geometry)?;
+    let ours = copy_rewritten(alloc, &both.lists(Side::Left), geometry)?;
     is_first_left(alloc, both.arcs(), by, &ours, others)
 }
 

@@ -5,7 +5,6 @@ ghost use Rattle.topo.specs.LayerLaws.LeftLists.{line_ends as ends_of_line};
 ghost use Rattle.topo.specs.LayerLaws.Less as spec;
 ghost use Rattle.topo.specs.LayerLaws.Less.{less};
 ghost use Rattle.arcs.specs.ArcMarks.{marks_set};
-ghost use Rattle.lines.specs.Turned.{position_cmp};
 ghost use Rattle.merging.specs.declared.fault.JoinFault.TheVariants.{OtherGrid};
 ghost use Rattle.refine.specs.LeftLists.{body_ends, layer_ends, layers_ends};
 ghost use Rattle.refine.specs.Borrowed.{all_borrowed, borrowed};
@@ -15,7 +14,6 @@ ghost use Rattle.shapes.specs.Maps.{Layers, features_at, set_of};
 ghost use Rattle.shapes.specs.Sets as set;
 ghost use Rattle.std.specs.Option.{option_map};
 ghost use Rattle.std.specs.Prelude.{◌≡◌, ◌<◌, ◌≤◌, ◌^◌, ◌++◌, ◌↔◌, length, false, true, replicate, IfOk, IsErrOf, IsNone, OnOk, map as map_list, slice_get};
-ghost use Rattle.theory.specs.Healing as joining;
 ghost use Rattle.topo.specs.Features.{HasFeature, IsKnownOf};
 ghost use Rattle.topo.specs.GeometryOrder.{HaveFeatures};
 ghost use Rattle.topo.specs.OfMap.{IsOf};
@@ -36,7 +34,7 @@ use std::alloc::Global;
 use std::cmp::Ordering;
 use std::collections::{BTreeSet, VecDeque};
 use std::marker::Model;
-use topo::{Body, Geom, Layer, NewLists, Topology, copy_rewritten, mark_body, stitching};
+use topo::{Body, Geom, Layer, Topology, copy_rewritten, mark_body, stitching};
 
 /// What is left of a topology, and the old arcs that each of its arcs is joined of.
 #[derive(Drop)]
@@ -307,26 +305,6 @@ fn line_ends(
     Ok(ends)
 }
 
-/// The lists of what stays by the arcs that are joined again.
-#[derive(Drop)]
-struct JoinedLists<'a> {
-    joined: &'a HealedArcs,
-}
-
-impl NewLists for JoinedLists<'_> {
-    ghost line_of = { λ l. joining.healed_list (starts_by l.joined.now.pieces) 0 };
-
-    ghost ring_of = { λ l. joining.healed_ring_list position_cmp l.joined.now.arcs.arcs (starts_by l.joined.now.pieces) };
-
-    fn line(&self, alloc: Global, used: &[ArcRef]) -> Result<Vec<ArcRef>, OutOfMemory> {
-        self.joined.line(alloc, used)
-    }
-
-    fn ring(&self, alloc: Global, used: &[ArcRef]) -> Result<Vec<ArcRef>, OutOfMemory> {
-        self.joined.ring(alloc, used)
-    }
-}
-
 /// A layer that stays by the new arcs.
 fn layer_over_healed(
     alloc: Global,
@@ -336,10 +314,9 @@ fn layer_over_healed(
     ensures { IfOk result (λ l. l ≡ spec.layer_over_healed arcs.now.arcs.arcs (starts_by arcs.now.pieces) (borrowed layer.now)) }
 {
     let name = layer.name.copy(alloc)?;
-    let lists = JoinedLists { joined: arcs };
     let mut geometries = Vec::with_capacity(alloc, layer.geometries.len())?;
     for geometry in &layer.geometries {
-        geometries.push(copy_rewritten(alloc, &lists, geometry)?)?;
+        geometries.push(copy_rewritten(alloc, arcs, geometry)?)?;
     }
     Ok(Layer::new(name, geometries))
 }

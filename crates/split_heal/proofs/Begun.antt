@@ -80,13 +80,6 @@ module _ (pieces : List (List ArcRef)) where
         ]
       ]
 
-  arcs_keep : (i : ℕ) (s : Starts) (ps : List (List ArcRef)) (q : ArcRef) → Noted s q → Noted (with_arcs i s ps) q
-  arcs_keep i s [] q n = n
-  arcs_keep i s (p ∷ ps) q n =
-      arcs_keep (i + 1) (with_head (record { arc = i; reversed = true }) (backwards p) (with_head (record { arc = i; reversed = false }) p s)) ps q
-      (head_keeps (record { arc = i; reversed = true }) (backwards p) (with_head (record { arc = i; reversed = false }) p s) q
-      (head_keeps (record { arc = i; reversed = false }) p s q n))
-
   -- what begins the pieces of a used new arc from number i on is noted
   arcs_put : (i : ℕ) (s : Starts) (ps : List (List ArcRef)) (j : ℕ) (r : Bool) (q : ArcRef) (more : List ArcRef) →
       cond r (backwards (pieces_at ps j)) (pieces_at ps j) ≡ q ∷ more → Noted (with_arcs i s ps) q

@@ -57,15 +57,6 @@ module _ {T : Type 0} where
   set_else (x ∷ l) (suc place) o zero n = refl
   set_else (x ∷ l) (suc place) o (suc k) n = set_else l place o k (λ e. n (ap suc e))
 
-  -- a value is noted at a place, and the others stay
-  pub noted_set : (l : List (Option T)) (place : ℕ) (o : Option T) (k : ℕ) → place < length l →
-      value_at (slice_set l place o) k ≡ cond (is_eq (nat_cmp place k)) o (value_at l k)
-  noted_set l place o k h = go (is_eq (nat_cmp place k)) refl
-    where
-      go : (b : Bool) → is_eq (nat_cmp place k) ≡ b → value_at (slice_set l place o) k ≡ cond b o (value_at l k)
-      go true e = subst (λ n. value_at (slice_set l place o) n ≡ o) (tied place k e) (set_same l place o h)
-      go false e = set_else l place o k (λ f. true_false (is_eq (nat_cmp k k)) (same_number k) (subst (λ n. is_eq (nat_cmp n k) ≡ false) f e))
-
   -- nothing is noted at a place that is not there
   pub noted_missing : (l : List (Option T)) (k : ℕ) → slice_get l k ≡ None → value_at l k ≡ None
   noted_missing [] k e = refl
@@ -76,30 +67,6 @@ module _ {T : Type 0} where
   noted_there [] k o e = absurd cc
   noted_there (x ∷ l) zero o e = cc
   noted_there (x ∷ l) (suc k) o e = noted_there l k o e
-
-  -- places are added up to one
-  pub noted_reached : (l new : List (Option T)) (n more k : ℕ) → length l ≤ n → new ≡ take n l ++ replicate more None → value_at new k ≡ value_at l k
-  noted_reached l new n more k h e = ap (λ w. value_at w k) (e ∙ ap (λ w. w ++ replicate more None) (take_all n l h)) ∙ noted_more l more k
-
-  -- one more is noted, of a use in either direction
-  set_one : (u r c : Bool) (one x y against ahead : Option T) → x ≡ cond u (cond c one against) against → y ≡ cond u ahead (cond c one ahead) →
-      cond r x y ≡ cond (same_way u r) (cond c one (cond r against ahead)) (cond r against ahead)
-  set_one true true c one x y against ahead e f = e
-  set_one true false c one x y against ahead e f = f
-  set_one false true c one x y against ahead e f = e
-  set_one false false c one x y against ahead e f = f
-
-  pub set_against : (ahead against new : List (Option T)) (used : ArcRef) (v : T) → used.reversed ≡ true →
-      ((k : ℕ) → value_at new k ≡ cond (is_eq (nat_cmp used.arc k)) (Some v) (value_at against k)) → (q : ArcRef) →
-      cond q.reversed (value_at new q.arc) (value_at ahead q.arc) ≡ with_noted used v (λ r. cond r.reversed (value_at against r.arc) (value_at ahead r.arc)) q
-  set_against ahead against new used v w e q =
-      rw w (set_one true q.reversed (is_eq (nat_cmp used.arc q.arc)) (Some v) (value_at new q.arc) (value_at ahead q.arc) (value_at against q.arc) (value_at ahead q.arc) (e q.arc) refl)
-
-  pub set_ahead : (ahead against new : List (Option T)) (used : ArcRef) (v : T) → used.reversed ≡ false →
-      ((k : ℕ) → value_at new k ≡ cond (is_eq (nat_cmp used.arc k)) (Some v) (value_at ahead k)) → (q : ArcRef) →
-      cond q.reversed (value_at against q.arc) (value_at new q.arc) ≡ with_noted used v (λ r. cond r.reversed (value_at against r.arc) (value_at ahead r.arc)) q
-  set_ahead ahead against new used v w e q =
-      rw w (set_one false q.reversed (is_eq (nat_cmp used.arc q.arc)) (Some v) (value_at against q.arc) (value_at new q.arc) (value_at against q.arc) (value_at ahead q.arc) refl (e q.arc))
 
   -- what is noted of a, and of others
   pub noted_here : (a : ArcRef) (v : T) (s : ArcRef → Option T) → with_noted a v s a ≡ Some v

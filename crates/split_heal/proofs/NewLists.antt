@@ -17,21 +17,6 @@ use Rattle.lines.proofs.Positions.{position_dec}
 use Rattle.split_heal.specs.Starts.{first_place, starts_by}
 use Rattle.split_heal.proofs.Begun.{starts_are}
 
--- one used old arc is read
-module _ (s : Starts) (a : ArcRef) (rest : List ArcRef) (before : List ArcRef) where
-  pub skip_one : (skip n : ℕ) → n + 1 ≡ skip → before ++ healed_list s n rest ≡ before ++ healed_list s skip (a ∷ rest)
-  skip_one skip n e = let f : suc n ≡ skip = omega (arith, e) in ap (λ k. before ++ healed_list s k (a ∷ rest)) f
-
-  pub none_begins : (skip : ℕ) → skip ≡ 0 → s a ≡ None → before ++ healed_list s 0 rest ≡ before ++ healed_list s skip (a ∷ rest)
-  none_begins skip e f =
-      sym (ap (λ w. before ++ (written w ++ healed_list s (skipped w) rest)) f) ∙ ap (λ k. before ++ healed_list s k (a ∷ rest)) (sym e)
-
-  pub one_begins : (skip : ℕ) (b : ArcRef) (n : ℕ) (now : List ArcRef) → skip ≡ 0 → s a ≡ Some (b, n) → now ≡ before ++ (b ∷ []) →
-      now ++ healed_list s n rest ≡ before ++ healed_list s skip (a ∷ rest)
-  one_begins skip b n now e f g =
-      ap (λ w. w ++ healed_list s n rest) g ∙ append_assoc before (b ∷ []) (healed_list s n rest)
-      ∙ sym (ap (λ w. before ++ (written w ++ healed_list s (skipped w) rest)) f) ∙ ap (λ k. before ++ healed_list s k (a ∷ rest)) (sym e)
-
 from_is : (s : Starts) (l : List ArcRef) → from_start s l ≡ drop (first_place s l) l
 from_is s [] = refl
 from_is s (a ∷ l) = go (is_start (s a)) (from_is s l)

@@ -201,11 +201,7 @@ impl Topology {
     ///
     /// # Errors
     /// Where memory is refused.
-    pub fn build_owned(
-        alloc: Global,
-        grid: &Grid,
-        map: FeatureMap,
-    ) -> Result<Topology, OutOfMemory>
+    pub fn build_owned(alloc: Global, grid: &Grid, map: FeatureMap) -> Result<Topology, OutOfMemory>
         ensures topology { IfOk result (λ t. IsTopology grid.now map (seen_parts t)) }
         ensures computed { IfOk result (λ t. seen_parts t ≡ the_topology grid.now map) }
         ensures segments { IfOk result (λ t. EachSegmentOnce (geometry_of map) t.arcs.arcs) }

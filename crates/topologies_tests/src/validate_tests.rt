@@ -301,7 +301,7 @@ fn line_ends(alloc: Global, arcs: Arcs, lines: &[&[i64]]) -> Result<Vec<Pos>, Fa
     let arcs = lists(alloc, arcs)?;
     let mut ends = Vec::new(alloc);
     for indexes in lines {
-        add_line_ends(&mut ends, &arcs, &refs_of(alloc, *indexes)?)?;
+        add_line_ends(&mut ends, &arcs.as_slice(), &refs_of(alloc, *indexes)?)?;
     }
     Ok(ends)
 }

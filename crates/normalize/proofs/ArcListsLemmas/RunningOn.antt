@@ -40,9 +40,6 @@ distinct_once : {A : Type 0} (l : List A) → ¬ Doubled l → Distinct l
 distinct_once [] n = tt
 distinct_once (x ∷ l) n = ((λ h. n (inl h)), distinct_once l (λ h. n (inr h)))
 
-none_in : (l : List ℕ) → l ≡ [] → length l ≡ 0
-none_in l e = ap length e
-
 module _ (told made sorted seen : List ℕ) (is : made ≡ told) (p : IsPermutation made sorted) (s : IsSorted nat_cmp sorted) (same : seen ≡ sorted) (b : Bool) (e : b ≡ equal_neighbours nat_eq seen) where
   pub numbers_apart : (n : ℕ) (none : Bool) → n ≡ length made → none ≡ nat_eq n 0 → none ≡ false → not b ≡ true → HaveLabels told
   numbers_apart n none len empty f t = record {

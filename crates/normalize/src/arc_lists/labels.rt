@@ -4,8 +4,9 @@ ghost use Rattle.normalize.specs.ArcLists.Labels.{ShareLabels, label_at};
 ghost use Rattle.std.specs.Prelude.{◌≡◌, IfOk, true};
 
 use crate::arc_lists::segments::{NumberedSegment, sorted_segments};
+use grid::pos::Pos;
+use lines::items::Items;
 use std::alloc::{AllocError, Global};
-use validate::accept::TextArcs;
 
 /// The label of an arc, 0 where there is none.
 pub(crate) fn label_of(labels: &[usize], arc: usize) -> usize
@@ -116,7 +117,7 @@ fn labels_by(
 }
 
 /// A label of each arc. Arcs that share a segment have one label.
-pub(crate) fn labels_of(alloc: Global, arcs: &TextArcs) -> Result<Vec<usize>, AllocError>
+pub(crate) fn labels_of(alloc: Global, arcs: &[Items<Pos>]) -> Result<Vec<usize>, AllocError>
     ensures { IfOk result (λ v. ShareLabels arcs.now v.items) }
 {
     let segments = sorted_segments(alloc, arcs)?;

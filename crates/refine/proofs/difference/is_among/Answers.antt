@@ -3,12 +3,13 @@ use Rattle.topo.specs.GeometryOrder.Noded.{AreNoded}
 use Rattle.topo.specs.GeometryOrder.Noted.{IsNotedFor}
 use Rattle.topo.specs.Features.{HasFeature}
 use Rattle.topo.specs.GeometryOrder.{HaveFeatures}
-use Rattle.refine.proofs.WhatDiffers.{first_by_lists, on_by_lists}
+use Rattle.split_heal.specs.PartsOfAll.{of_table}
+use Rattle.refine.proofs.WhatDiffers.{cut_left, first_by_lists, on_by_lists}
 use Rattle.refine.proofs.difference.is_among.Goals as goal
 
 pub is_first_left-requires-clause-there : goal.is_first_left-requires-clause-there
 is_first_left-requires-clause-there c =
-    subst (λ a. HasFeature a.arcs c.in_ok-ours.ours) (sym c.arcs.ensures) (subst (HasFeature c.args.both.now.arcs.arcs) (sym c.in_ok-ours.ensures) c.requires.there)
+    subst (λ a. HasFeature a.arcs c.in_ok-ours.ours) (sym c.arcs.ensures) (subst (HasFeature c.args.both.now.arcs.arcs) (sym (cut_left c.args.both.now c.lists.result.recut.now.arcs (of_table c.lists.result.table c.lists.result.recut.now) c.in_ok-ours.ours c.args.geometry.now c.lists.ensures.arcs c.lists.ensures.pieces c.in_ok-ours.ensures)) c.requires.there)
 
 pub is_first_left-requires-clause-noded : goal.is_first_left-requires-clause-noded
 is_first_left-requires-clause-noded c = subst (λ a. AreNoded a.arcs) (sym c.arcs.ensures) c.requires.noded
@@ -25,11 +26,11 @@ returns-clause-noted c = subst (λ a. IsNotedFor a.arcs c.is_first_left.new.by) 
 pub returns-clause-rest : goal.returns-clause-rest
 returns-clause-rest c =
     subst (λ x. OnOk c.is_first_left.result (c.is_first_left.new.others.items ≡ x))
-    (on_by_lists c.args.both.now c.arcs.result.now c.in_ok-ours.ours c.args.geometry.now c.arcs.ensures c.in_ok-ours.ensures c.args.others.now.items)
+    (on_by_lists c.args.both.now c.arcs.result.now c.in_ok-ours.ours c.args.geometry.now c.arcs.ensures (cut_left c.args.both.now c.lists.result.recut.now.arcs (of_table c.lists.result.table c.lists.result.recut.now) c.in_ok-ours.ours c.args.geometry.now c.lists.ensures.arcs c.lists.ensures.pieces c.in_ok-ours.ensures) c.args.others.now.items)
     c.is_first_left.ensures.rest
 
 pub returns-clause-among : goal.returns-clause-among
 returns-clause-among c =
     subst (λ x. IfOk c.is_first_left.result (λ b. b ≡ x))
-    (first_by_lists c.args.both.now c.arcs.result.now c.in_ok-ours.ours c.args.geometry.now c.arcs.ensures c.in_ok-ours.ensures c.args.others.now.items)
+    (first_by_lists c.args.both.now c.arcs.result.now c.in_ok-ours.ours c.args.geometry.now c.arcs.ensures (cut_left c.args.both.now c.lists.result.recut.now.arcs (of_table c.lists.result.table c.lists.result.recut.now) c.in_ok-ours.ours c.args.geometry.now c.lists.ensures.arcs c.lists.ensures.pieces c.in_ok-ours.ensures) c.args.others.now.items)
     c.is_first_left.ensures.among

@@ -17,4 +17,4 @@ returns c =
     (c.in_ok-extend_from_slice.ensures.items ∙ ap (λ w. w ++ lines)
     (c.in_ok-meeting.ensures ∙ ap again (c.deref-2.ensures.value ∙ c.in_ok-twice.ensures ∙ ap again c.deref.ensures.value)))
     c.sort_unstable-2.ensures.permutation)
-    c.each_ends.result (c.each_ends.ensures ∙ ap (λ w. each_ends Among w t.loops t.arcs) c.deref-3.ensures.value)
+    c.each_ends.result (c.each_ends.ensures ∙ ap (λ w. each_ends Among w t) c.deref-3.ensures.value)

@@ -1,4 +1,5 @@
-use Rattle.std.proofs.Common.{◌++◌, ◌∙◌, ap}
+use Rattle.std.proofs.Common.{◌++◌, ◌∙◌, ap, length}
+use Rattle.std.proofs.lemmas.List.{length-map}
 use Rattle.theory.specs.Lists.{gathered}
 use Rattle.chains.specs.OfArcs.{arc_ends, tables_as_map}
 use Rattle.chains.specs.VertexFilter.{arc_shared, may_hold, HoldShared}
@@ -60,6 +61,12 @@ returns-clause-right c = λ m n sm sn ms nt.
     (left_held (goal.at.returns-clause-right c).After-see_arcs)
     (right_held (goal.at.returns-clause-right c).After-see_arcs)
     c.in_ok-index.index (returns-clause-arcs c m n sm sn ms nt) c.in_ok-right_marks.right_marks.items c.in_ok-right_marks.ensures.marks
+
+pub returns-clause-left_marks : goal.returns-clause-left_marks
+returns-clause-left_marks c = ap length c.in_ok-left_marks.ensures.marks ∙ length-map c.args.left.now.arcs _
+
+pub returns-clause-right_marks : goal.returns-clause-right_marks
+returns-clause-right_marks c = ap length c.in_ok-right_marks.ensures.marks ∙ length-map c.args.right.now.arcs _
 
 pub returns-clause-left_extent : goal.returns-clause-left_extent
 returns-clause-left_extent c = λ arc h p k.
