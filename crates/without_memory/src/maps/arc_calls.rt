@@ -124,11 +124,6 @@ fn runs_behind_first(topology: &Topology) -> bool {
     is_at(run.take_first(), 0, 1) && run.len() == 2
 }
 
-fn runs_until(topology: &Topology) -> bool {
-    let run = run(topology);
-    run.until(run.len()).len() == 4
-}
-
 fn runs_behind(topology: &Topology) -> bool {
     let run = run(topology);
     run.behind(run.len()).len() == 0
@@ -217,6 +212,20 @@ fn has_no_line(topology: &Topology) -> bool {
     }
 }
 
+fn has_one_polygon(topology: &Topology) -> bool {
+    match square(topology) {
+        Some(body) => body.line_slice().is_empty() && body.polygons().len() == 1,
+        None => false,
+    }
+}
+
+fn has_name_of_kind(topology: &Topology) -> bool {
+    match square(topology) {
+        Some(body) => body.kind_name() == "Polygon",
+        None => false,
+    }
+}
+
 fn has_no_point(topology: &Topology) -> bool {
     match square(topology) {
         Some(body) => body.points().is_empty(),
@@ -269,6 +278,7 @@ fn test_table(rt: &HostRuntime, tally: &mut Tally, arcs: &ArcTable) {
         "ArcRef::flip" => flips(),
         "ArcTable::len" => arcs.len() == 3,
         "ArcTable::iter" => arcs.iter().count() == 3,
+        "ArcTable::with_loops" => arcs.with_loops().count() == 3,
         "ArcTable::first_step" => has_first_step(arcs),
         "ArcStep::first_along" => begins_along(arcs),
         "ArcStep::first_against" => begins_against(arcs),
@@ -284,7 +294,6 @@ fn test_runs(rt: &HostRuntime, tally: &mut Tally, topology: &Topology) {
         "ArcSlice::take_first" => takes_first(topology),
         "ArcSlice::take_last" => takes_last(topology),
         "ArcSlice::len" => run(topology).len() == 4,
-        "ArcSlice::until" => runs_until(topology),
         "ArcSlice::behind" => runs_behind(topology),
         "ArcSlice::is_along" => runs_along(topology),
     );
@@ -295,6 +304,7 @@ fn test_topology(rt: &HostRuntime, tally: &mut Tally, topology: &Topology) {
         "Layer::name" => has_name(topology),
         "Layer::geometries" => has_name(topology),
         "topo::kind_order" => has_one_kind(topology),
+        "Topology::is_on_grid_of" => topology.is_on_grid_of(topology),
         "Topology::grid" => Some(topology.grid()) == Grid::new(1, 1, 0, 0),
         "Topology::arcs" => topology.arcs().len() == 3,
         "Topology::layers" => topology.layers().len() == 1,
@@ -305,6 +315,9 @@ fn test_topology(rt: &HostRuntime, tally: &mut Tally, topology: &Topology) {
         "Form::rings" => has_rings(topology),
         "Form::parts" => has_lists(topology),
         "Form::points" => has_no_point(topology),
+        "Form::line_slice" => has_one_polygon(topology),
+        "Form::polygons" => has_one_polygon(topology),
+        "Form::kind_name" => has_name_of_kind(topology),
         "topo_io::is_text_of" => is_text(topology),
         "topo::is_same" => has_equal_places(topology),
         "merging::same_grid" => is_same_alone(topology.grid()),

@@ -224,5 +224,14 @@ impl Handed for Features {
 
     fn test(self, rt: &HostRuntime, tally: &mut Tally) {
         self.test_each(rt, tally);
+        let Features {
+            map,
+            same: _,
+            far: _,
+        } = self;
+        let has_one = map.into_layers().count() == 1;
+        rows!(rt, tally;
+            "FeatureMap::into_layers" => has_one,
+        );
     }
 }
