@@ -38,6 +38,12 @@ module _ {V : Type 0} (cmp : V → V → Ordering) (o : IsTotalOrder cmp) (same 
     stays = λ m h. elim h [ inl f ↦ subst Kept (sym f) kept | inr z ↦ absurd z ];
   }
 
+  -- between two junctions
+  pub whole_run : (k : ℕ) (d : List V) → Kept k → slice_get table k ≡ Some d → ((v : V) → EndOf v d → JunctionOf g v) →
+      IsOpenRun Kept (JunctionOf g) table d (ahead k ∷ [])
+  whole_run k [] kept e j = absurd (all.arcs_only [] (get_has table k [] e)).chain
+  whole_run k (x ∷ r) kept e j = record { run = one_run k x r kept e; ends = j; meets = λ b v h f. absurd h }
+
   -- a free loop
   pub loop_run : (k : ℕ) (d : List V) → Kept k → slice_get table k ≡ Some d → Free (JunctionOf u) d → IsLoopRun cmp Kept (JunctionOf g) table d (ahead k ∷ [])
   loop_run k d kept e free =
