@@ -10,7 +10,7 @@ use Rattle.shapes.specs.Order.{id_cmp}
 use Rattle.shapes.specs.contracts.shape.IdOrd.TheImpl.Laws.{matches_eq-law as id_ties}
 use Rattle.shapes.specs.contracts.shape.IdPartialEq.TheImpl as id_eq
 use Rattle.shapes.specs.declared.shape.Id.{Id}
-use Rattle.sinks.specs.Texts.{joined}
+use Rattle.sinks.specs.Texts.{behind_texts, each_text, joined}
 use Rattle.topo.proofs.FeatureOrder.{id_derived_is}
 use Rattle.topo.specs.Parts.{LayerParts, TopologyParts}
 use Rattle.topo.specs.declared.geom.Geom.{Geom}
@@ -18,7 +18,6 @@ use Rattle.difference_text.specs.DifferenceJson.{change_object, difference_json,
 use Rattle.difference_text.specs.DifferenceLines.{change_line, counts_line, difference_lines, geometry_part, ids_part, layer_head, layer_lines, member_line, parts_text, single_line}
 use Rattle.difference_text.specs.DifferenceParts.{LayerReport, has_other_id, has_some, layer_in, layer_name, layer_report}
 use Rattle.difference_text.specs.DifferenceText.{counts_of}
-use Rattle.text_parts.specs.TextParts.{behind_texts, each_text}
 use Rattle.difference_text.specs.declared.difference.ChangeCounts.{ChangeCounts}
 use Rattle.difference_text.specs.declared.difference.Difference.{Difference}
 use Rattle.difference_text.specs.declared.difference.FeatureChange.{FeatureChange}

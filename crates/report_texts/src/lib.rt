@@ -1,7 +1,6 @@
 //! Reports as JSON objects: what became of maps that were rounded, and what tests of a map's quality found.
 #![tactic(auto)]
 
-mod parts;
 mod quality_text;
 mod report_line;
 

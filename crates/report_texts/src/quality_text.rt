@@ -1,20 +1,18 @@
 //! What tests of a map's quality found, as a JSON object.
 ghost use Rattle.report_texts.specs.QualityParts.{id_lists_text, layer_lists, lists_found, text_or_null};
-ghost use Rattle.report_texts.specs.QualityText.{AreNearIf, IsQualityText, canonical_text, found_text, layer_name, lists_if, lists_of, named_numbers, near_pair, near_text, place_text};
-ghost use Rattle.shapes.specs.Parts.{spelled_text};
+ghost use Rattle.report_texts.specs.QualityText.{AreNearIf, IsQualityText, canonical_text, found_text, lists_if, lists_of, near_pair, near_text, place_text};
 ghost use Rattle.sinks.specs.InMemory.{kept_seen};
 ghost use Rattle.sinks.specs.Writes.{TookAll};
 ghost use Rattle.std.specs.Prelude.{◌≡◌, ℕ, IfOk, List, OnOk, map};
 
-use crate::parts::DecimalNumbers;
 use compare::quality::{NearPlace, NearVertices, near_vertices, repeated_ids, without_id};
 use faults::OutOfMemory;
 use grid::{Grid, Pos};
 use shapes::Spelled;
-use sinks::written::{Listed, Notation, Pair, Text, Then, Written};
+use shapes::writing::Lists;
+use sinks::written::{Listed, Notation, Noted, Number, Numbers, Pair, Written};
 use sinks::{Kept, Sink, WriteFault};
 use std::alloc::Global;
-use text_parts::WideDigits;
 use topo::{Layer, Topology};
 
 /// What is asked about a map.
@@ -36,30 +34,6 @@ struct IdLists<'a> {
     repeated: Vec<usize>,
 }
 
-/// The name of a layer.
-#[derive(Clone, Copy)]
-struct LayerName<'a>(&'a Spelled);
-
-impl<'a> Written for LayerName<'a> {
-    ghost text = { λ n. layer_name (spelled_text n.0.now) };
-
-    fn write<W: Sink>(&self, sink: &mut W) -> Result<(), WriteFault> {
-        Then(Text(b"{\"layer\":"), Text(self.0.spelling().as_bytes())).write(sink)
-    }
-}
-
-/// A list of numbers behind its name.
-#[derive(Clone, Copy)]
-struct NamedNumbers<'a>(&'a [u8], &'a Vec<usize>);
-
-impl<'a> Written for NamedNumbers<'a> {
-    ghost text = { λ n. named_numbers n.0.now n.1.now.items };
-
-    fn write<W: Sink>(&self, sink: &mut W) -> Result<(), WriteFault> {
-        Then(Text(self.0), Listed(self.1.as_slice(), &DecimalNumbers)).write(sink)
-    }
-}
-
 /// The lists of a layer.
 #[derive(Clone, Copy)]
 struct ListObjects;
@@ -68,10 +42,10 @@ impl<'a> Notation<IdLists<'a>> for ListObjects {
     ghost text = { λ _ l. id_lists_text l };
 
     fn write_value<W: Sink>(&self, value: &IdLists<'a>, sink: &mut W) -> Result<(), WriteFault> {
-        let missing = NamedNumbers(b",\"missing\":", &value.missing);
-        let repeated = NamedNumbers(b",\"repeated\":", &value.repeated);
-        let lists = Then(missing, Then(repeated, Text(b"}")));
-        Then(LayerName(value.name), lists).write(sink)
+        let numbers = Lists(Numbers);
+        let missing = (",\"missing\":", Noted(&value.missing, &numbers));
+        let repeated = (",\"repeated\":", Noted(&value.repeated, &numbers));
+        (("{\"layer\":", value.name), missing, repeated, "}").write(sink)
     }
 }
 
@@ -85,7 +59,7 @@ impl<'a> Written for ListsOrNull<'a> {
     fn write<W: Sink>(&self, sink: &mut W) -> Result<(), WriteFault> {
         match self.0 {
             Some(lists) => Listed(lists.as_slice(), &ListObjects).write(sink),
-            None => Text(b"null").write(sink),
+            None => "null".write(sink),
         }
     }
 }
@@ -116,8 +90,14 @@ impl<'a> Notation<(NearPlace, NearPlace)> for NearPairs<'a> {
         sink: &mut W,
     ) -> Result<(), WriteFault> {
         let (one, other) = *value;
-        let rest = Then(Text(b","), Then(Absolute(self.0, other.at), Text(b"]")));
-        Then(Text(b"["), Then(Absolute(self.0, one.at), rest)).write(sink)
+        (
+            "[",
+            Absolute(self.0, one.at),
+            ",",
+            Absolute(self.0, other.at),
+            "]",
+        )
+            .write(sink)
     }
 }
 
@@ -131,11 +111,11 @@ impl<'a> Written for NearOrNull<'a> {
     fn write<W: Sink>(&self, sink: &mut W) -> Result<(), WriteFault> {
         match self.0 {
             Some(near) => {
-                let count = Then(Text(b"{\"count\":"), WideDigits(near.count));
+                let count = ("{\"count\":", Number(near.count));
                 let pairs = Listed(near.first.as_slice(), &NearPairs(self.1));
-                Then(count, Then(Text(b",\"pairs\":"), Then(pairs, Text(b"}")))).write(sink)
+                (count, ",\"pairs\":", pairs, "}").write(sink)
             }
-            None => Text(b"null").write(sink),
+            None => "null".write(sink),
         }
     }
 }
@@ -149,9 +129,9 @@ impl Written for Verdict {
 
     fn write<W: Sink>(&self, sink: &mut W) -> Result<(), WriteFault> {
         if self.0 {
-            Text(b"{\"canonical\":true,\"ids\":").write(sink)
+            "{\"canonical\":true,\"ids\":".write(sink)
         } else {
-            Text(b"{\"canonical\":false,\"ids\":").write(sink)
+            "{\"canonical\":false,\"ids\":".write(sink)
         }
     }
 }
@@ -219,11 +199,8 @@ fn write_found(
 ) -> Result<(), OutOfMemory>
     ensures { OnOk result (TookAll (kept_seen kept.old) (kept_seen kept.new) (found_text is_canonical (text_or_null lists.now) grid.now near.now)) }
 {
-    let rest = Then(
-        Text(b",\"near\":"),
-        Then(NearOrNull(near, grid), Text(b"}")),
-    );
-    match Then(Verdict(is_canonical), Then(ListsOrNull(lists), rest)).write(kept) {
+    let (lists, near) = (ListsOrNull(lists), NearOrNull(near, grid));
+    match (Verdict(is_canonical), lists, ",\"near\":", near, "}").write(kept) {
         Ok(()) => Ok(()),
         Err(_) => Err(OutOfMemory),
     }

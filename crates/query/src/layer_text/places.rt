@@ -10,7 +10,7 @@ use crate::layer_text::steps::{behind, is_step, least_step};
 use arcs::{ArcRef, ArcStep};
 use geojson_io::writer::{PlaceAfterComma, Places};
 use grid::{Grid, Pos};
-use sinks::written::{Noted, Text, Then, Written};
+use sinks::written::{Noted, Written};
 use sinks::{Sink, WriteFault};
 use topo::{Topology, Walk};
 
@@ -114,9 +114,9 @@ impl<'a> Written for Round<'a> {
             Some(step) => {
                 let grid = topology.grid();
                 let places = Places(&grid);
-                let others = Then(Behind(topology, used, step), UpTo(topology, used, step));
-                let second = Then(Text(b","), Then(Noted(&step.to, &places), others));
-                Then(Noted(&step.from, &places), second).write(sink)
+                let (from, to) = (Noted(&step.from, &places), Noted(&step.to, &places));
+                let others = Behind(topology, used, step);
+                (from, ",", to, others, UpTo(topology, used, step)).write(sink)
             }
             None => Ok(()),
         }

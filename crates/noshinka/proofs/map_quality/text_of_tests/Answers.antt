@@ -1,6 +1,6 @@
 use Rattle.std.proofs.Common.{ap, subst, sym}
 use Rattle.report_texts.specs.QualityText.{IsQualityText}
-use Rattle.topo_io.proofs.SinkLemmas.{appended}
+use Rattle.sinks.proofs.Writes.{appended}
 use Rattle.noshinka.proofs.map_quality.text_of_tests.Goals as goal
 
 pub returns : goal.returns

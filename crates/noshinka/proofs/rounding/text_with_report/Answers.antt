@@ -1,6 +1,6 @@
 use Rattle.std.proofs.Common.{ap}
 use Rattle.sinks.proofs.Writes.{all_all}
-use Rattle.topo_io.proofs.SinkLemmas.{appended}
+use Rattle.sinks.proofs.Writes.{appended}
 use Rattle.noshinka.proofs.rounding.text_with_report.Goals as goal
 
 pub returns-in-Ok : goal.returns-in-Ok

@@ -1,4 +1,4 @@
-use Rattle.std.proofs.Common.{ℕ, List, ◌∙◌, subst}
+use Rattle.std.proofs.Common.{ℕ, List, refl, subst}
 use Rattle.std.specs.Result.{OnOk}
 use Rattle.sinks.specs.Writes.{TookAll}
 use Rattle.shapes.specs.Parts.{properties_text}
@@ -9,5 +9,5 @@ pub returns-clause-whole : goal.returns-clause-whole
 returns-clause-whole g c =
     let P : List ℕ → Type 0 = λ l. OnOk c.write.result (TookAll (g.W.Sink.seen c.args.sink.now) (g.W.Sink.seen c.write.new.sink) l) in
     subst P
-    (properties_are c.as_bytes.result.now (properties_text c.args.self.now.0.now) c.is_empty.result c.if-is_empty.false c.is_empty.ensures.1 (c.as_bytes.ensures.value ∙ c.text.ensures))
+    (properties_are (properties_text c.args.self.now.0.now) (properties_text c.args.self.now.0.now) c.is_empty.result c.if-is_empty.false c.is_empty.ensures.1 refl)
     c.write.ensures.whole
