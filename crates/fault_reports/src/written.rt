@@ -1,8 +1,8 @@
 //! Errors as lines, in the form that editors and compilers share, and as JSON.
-ghost use Rattle.fault_reports.specs.FaultReports.{array_text, file_text, line_text, lines_text, object_text, objects_text, remedy_member, report_lines};
+ghost use Rattle.fault_reports.specs.FaultReports.{array_text, file_text, line_text, lines_text, object_text, remedy_member, report_lines};
 ghost use Rattle.fault_reports.specs.FirstReports.{AreCounts, first_and_more, first_of_each, first_text};
 ghost use Rattle.sinks.specs.Writes.{TookAll, TookPart};
-ghost use Rattle.std.specs.Prelude.{[], IfOk, OnErr, OnOk, nat_lt};
+ghost use Rattle.std.specs.Prelude.{[], IfOk, OnErr, OnOk};
 
 use crate::counts::FaultCounts;
 use crate::more::write_more;
@@ -164,7 +164,7 @@ impl<'a> Written for RemedyMember<'a> {
 /// Reports of errors of a file, whose name, where it has one, is JSON, each as an object with its members in byte order of
 /// their names, and with what helps where that is asked for.
 #[derive(Clone, Copy)]
-struct ReportObjects<'a>(&'a Option<String>, bool);
+pub(crate) struct ReportObjects<'a>(pub(crate) &'a Option<String>, pub(crate) bool);
 
 impl<'a> Notation<FaultReport> for ReportObjects<'a> {
     ghost text = { λ o r. object_text o.0.now o.1 r };
@@ -186,30 +186,6 @@ impl<'a> Notation<FaultReport> for ReportObjects<'a> {
         let lines = (place, (id, (",\"line\":", line), member));
         (lines, fault, RemedyMember(value, self.1), "}").write(sink)
     }
-}
-
-/// Writes the errors of a file, whose name, where it has one, is JSON, as elements of a JSON array, behind `before` of other
-/// files.
-///
-/// # Errors
-/// `Write` where the sink failed; it then took a beginning of the text.
-pub fn write_json<W: Sink>(
-    file: &Option<String>,
-    reports: &[FaultReport],
-    is_explained: bool,
-    before: usize,
-    sink: &mut W,
-) -> Result<(), WriteFault>
-    ensures whole { OnOk result (TookAll (W.seen sink.old) (W.seen sink.new) (objects_text file.now is_explained (nat_lt 0 before) reports.now)) }
-    ensures part { OnErr result (TookPart (W.seen sink.old) (W.seen sink.new) (objects_text file.now is_explained (nat_lt 0 before) reports.now)) }
-{
-    SeparatedValues {
-        separator: ",\n",
-        is_behind: before > 0,
-        values: reports,
-        notation: &ReportObjects(file, is_explained),
-    }
-    .write(sink)
 }
 
 /// The reports of the errors of a text without a name, as a JSON array.
