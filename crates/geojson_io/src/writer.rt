@@ -4,7 +4,7 @@ ghost use Rattle.lines.specs.Seen.{positions_of, vertices_of};
 ghost use Rattle.shapes.specs.Parts.{properties_text};
 ghost use Rattle.shapes.specs.declared.feature.Feature.{Feature};
 ghost use Rattle.sinks.specs.Stops.{FailedIn};
-ghost use Rattle.sinks.specs.Texts.{after_comma, after_commas, framed, joined};
+ghost use Rattle.sinks.specs.Texts.{framed};
 ghost use Rattle.sinks.specs.Writes.{TookAll, TookPart};
 ghost use Rattle.std.specs.Borrow.{Bor};
 ghost use Rattle.std.specs.Iterator.{Drains, IsFinite};
@@ -19,7 +19,8 @@ use shapes::props::Props;
 use shapes::shape::{Id, Shape};
 use shapes::writing::{FormContent, IdMember, KindName};
 use sinks::written::{
-    Bracketed, Notation, Noted, OneOf, Pair, PairAfterComma, Written, write_framed,
+    AfterComma, Bracketed, Each, Listed, Notation, Noted, OneOf, Pair, PairAfterComma, Written,
+    write_framed,
 };
 use sinks::{Sink, WriteFault};
 
@@ -34,56 +35,11 @@ impl<'a> Notation<Pos> for Places<'a> {
         let (x, y) = self.0.to_absolute(*value);
         Pair(x, y).write(sink)
     }
-}
 
-/// A position after a comma, by its absolute numbers, as one piece.
-#[derive(Clone, Copy)]
-pub struct PlaceAfterComma<'a>(pub &'a Pos, pub &'a Grid);
-
-impl<'a> Written for PlaceAfterComma<'a> {
-    ghost text = { λ p. after_comma (place_text p.1.now) p.0.now };
-
-    fn write<W: Sink>(&self, sink: &mut W) -> Result<(), WriteFault> {
-        let (x, y) = self.1.to_absolute(*self.0);
+    fn write_after_comma<W: Sink>(&self, value: &Pos, sink: &mut W) -> Result<(), WriteFault> {
+        let (x, y) = self.0.to_absolute(*value);
         PairAfterComma(x, y).write(sink)
     }
-}
-
-/// Positions by their absolute numbers, with commas between them.
-#[derive(Clone, Copy)]
-pub struct JoinedPlaces<'a>(pub &'a [Pos], pub &'a Grid);
-
-impl<'a> Written for JoinedPlaces<'a> {
-    ghost text = { λ p. joined (place_text p.1.now) p.0.now };
-
-    fn write<W: Sink>(&self, sink: &mut W) -> Result<(), WriteFault> {
-        match self.0.split_first() {
-            Some((first, others)) => match Noted(first, &Places(self.1)).write(sink) {
-                Ok(()) => write_after_commas(sink, self.1, others),
-                Err(fault) => Err(fault),
-            },
-            None => Ok(()),
-        }
-    }
-}
-
-/// Writes positions, each after a comma.
-fn write_after_commas<W: Sink>(
-    sink: &mut W,
-    grid: &Grid,
-    positions: &[Pos],
-) -> Result<(), WriteFault>
-    ensures whole { OnOk result (TookAll (W.seen sink.old) (W.seen sink.new) (after_commas (place_text grid.now) positions.now)) }
-    ensures part { OnErr result (TookPart (W.seen sink.old) (W.seen sink.new) (after_commas (place_text grid.now) positions.now)) }
-{
-    let mut left = positions;
-    while let Some((place, after)) = left.split_first() {
-        match PlaceAfterComma(place, grid).write(sink) {
-            Ok(()) => left = after,
-            Err(fault) => return Err(fault),
-        }
-    }
-    Ok(())
 }
 
 /// Lines, as lists of places.
@@ -94,7 +50,7 @@ impl<'a> Notation<Line> for LinesOn<'a> {
     ghost text = { λ lines line. line_text lines.0.now (positions_of line) };
 
     fn write_value<W: Sink>(&self, value: &Line, sink: &mut W) -> Result<(), WriteFault> {
-        Bracketed(JoinedPlaces(value.positions(), self.0)).write(sink)
+        Listed(value.positions(), &Places(self.0)).write(sink)
     }
 }
 
@@ -118,10 +74,9 @@ impl<'a> Written for Closed<'a> {
     ghost text = { λ c. closed_text c.1.now c.0.now };
 
     fn write<W: Sink>(&self, sink: &mut W) -> Result<(), WriteFault> {
+        let places = Places(self.1);
         match self.0.split_first() {
-            Some((first, _)) => {
-                (JoinedPlaces(self.0, self.1), PlaceAfterComma(first, self.1)).write(sink)
-            }
+            Some((first, _)) => (Each(self.0, &places), AfterComma(first, &places)).write(sink),
             None => Ok(()),
         }
     }

@@ -1,41 +1,21 @@
 //! From texts in decimal numbers to the topology or the features of what they are rounded to.
 ghost use Rattle.c_calls.specs.Borrowed.{borrowed_sources};
 ghost use Rattle.noshinka.specs.Rounding.{IsFilesRefusal, IsMade, IsRoundAnswer, IsRoundRefusal, IsSourcesRefusal, features_in, files_as, names_in};
-ghost use Rattle.report_texts.specs.ReportText.{report_if};
 ghost use Rattle.outputs.specs.BuiltText.Maps.{borrowed_texts};
 ghost use Rattle.rounded_maps.specs.Files.{file_of, files_of};
-ghost use Rattle.std.specs.Prelude.{◌≡◌, ◌++◌, IfErr, IfOk, false, map, nat_eq, true};
+ghost use Rattle.std.specs.Prelude.{◌≡◌, IfErr, IfOk, false, map, nat_eq, true};
 
 use crate::round_options::{RoundOptions, are_options};
 use crate::rules::{names_of, rules_of, units_of};
 use c_calls::borrowed::{SourceText, borrow_sources};
 use c_calls::refusal::CallRefusal;
 use faults::OutOfMemory;
-use report_texts::write_report;
+use report_texts::text_with_report;
 use rounded_maps::{
     BuildRules, CollectionText, Rounded, RoundedFeature, RoundedMap, Source, build_maps, round_maps,
 };
-use sinks::Kept;
-use sinks::written::Written;
 use std::alloc::Global;
 use topo_io::Canonical;
-
-/// The report, where it is asked for, and then a text.
-fn text_with_report<T: Written>(
-    alloc: Global,
-    reports: bool,
-    rounded: &Rounded,
-    body: &T,
-) -> Result<Vec<u8>, OutOfMemory>
-    ensures { IfOk result (λ t. t.items ≡ report_if reports rounded.now ++ T.text body.now) }
-{
-    let mut kept = Kept::new(alloc);
-    write_report(alloc, reports, rounded, &mut kept)?;
-    match body.write(&mut kept) {
-        Ok(()) => Ok(kept.into_bytes()),
-        Err(_) => Err(OutOfMemory),
-    }
-}
 
 /// The features of maps, one behind another.
 fn all_features(alloc: Global, maps: Vec<RoundedMap>) -> Result<Vec<RoundedFeature>, OutOfMemory>

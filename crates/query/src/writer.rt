@@ -8,7 +8,7 @@ ghost use Rattle.std.specs.Prelude.{◌≡◌, map, slice_get, OnErr, OnOk};
 ghost use Rattle.topo.specs.Points.{arc_at};
 
 use chains::ArcTable;
-use geojson_io::writer::{Geometry, JoinedPlaces};
+use geojson_io::writer::{Geometry, Places};
 use grid::{Grid, Pos};
 use shapes::writing::Lists;
 use sinks::written::{Bracketed, Listed, Notation, Numbers, Written};
@@ -35,7 +35,7 @@ impl<'a> Written for LinesIn<'a> {
     fn write<W: Sink>(&self, sink: &mut W) -> Result<(), WriteFault> {
         let mut separator = "";
         for line in self.0.iter() {
-            match (separator, Bracketed(JoinedPlaces(line, self.1))).write(sink) {
+            match (separator, Listed(line, &Places(self.1))).write(sink) {
                 Ok(()) => separator = ",",
                 Err(fault) => return Err(fault),
             }

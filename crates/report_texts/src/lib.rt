@@ -4,5 +4,5 @@
 mod quality_text;
 mod report_line;
 
-pub use quality_text::{QualityTests, write_quality};
-pub use report_line::write_report;
+pub use quality_text::{QualityTests, quality_text};
+pub use report_line::text_with_report;

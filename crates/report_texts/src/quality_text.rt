@@ -1,17 +1,16 @@
 //! What tests of a map's quality found, as a JSON object.
 ghost use Rattle.report_texts.specs.QualityParts.{id_lists_text, layer_lists, lists_found, text_or_null};
-ghost use Rattle.report_texts.specs.QualityText.{AreNearIf, IsQualityText, canonical_text, found_text, lists_if, lists_of, near_pair, near_text, place_text};
-ghost use Rattle.sinks.specs.InMemory.{kept_seen};
-ghost use Rattle.sinks.specs.Writes.{TookAll};
-ghost use Rattle.std.specs.Prelude.{◌≡◌, ℕ, IfOk, List, OnOk, map};
+ghost use Rattle.report_texts.specs.QualityText.{AreNearIf, IsQualityText, canonical_text, lists_if, lists_of, near_pair, near_text};
+ghost use Rattle.std.specs.Prelude.{◌≡◌, IfOk, map};
 
 use compare::quality::{NearPlace, NearVertices, near_vertices, repeated_ids, without_id};
 use faults::OutOfMemory;
-use grid::{Grid, Pos};
+use geojson_io::writer::Places;
+use grid::Grid;
 use shapes::Spelled;
 use shapes::writing::Lists;
-use sinks::written::{Listed, Notation, Noted, Number, Numbers, Pair, Written};
-use sinks::{Kept, Sink, WriteFault};
+use sinks::written::{Listed, Notation, Noted, Number, Numbers, Written};
+use sinks::{Sink, WriteFault, to_bytes};
 use std::alloc::Global;
 use topo::{Layer, Topology};
 
@@ -61,19 +60,6 @@ impl<'a> Written for ListsOrNull<'a> {
             Some(lists) => Listed(lists.as_slice(), &ListObjects).write(sink),
             None => "null".write(sink),
         }
-    }
-}
-
-/// Positions by their absolute numbers.
-#[derive(Clone, Copy)]
-struct Absolute<'a>(&'a Grid, Pos);
-
-impl<'a> Written for Absolute<'a> {
-    ghost text = { λ a. place_text a.0.now a.1 };
-
-    fn write<W: Sink>(&self, sink: &mut W) -> Result<(), WriteFault> {
-        let (x, y) = self.0.to_absolute(self.1);
-        Pair(x, y).write(sink)
     }
 }
 
@@ -189,39 +175,22 @@ fn near_asked(
     }
 }
 
-/// Writes what was found.
-fn write_found(
-    is_canonical: bool,
-    lists: &Option<Vec<IdLists<'_>>>,
-    grid: &Grid,
-    near: &Option<NearVertices>,
-    kept: &mut Kept,
-) -> Result<(), OutOfMemory>
-    ensures { OnOk result (TookAll (kept_seen kept.old) (kept_seen kept.new) (found_text is_canonical (text_or_null lists.now) grid.now near.now)) }
-{
-    let (lists, near) = (ListsOrNull(lists), NearOrNull(near, grid));
-    match (Verdict(is_canonical), lists, ",\"near\":", near, "}").write(kept) {
-        Ok(()) => Ok(()),
-        Err(_) => Err(OutOfMemory),
-    }
-}
-
-/// Writes what is asked about a topology, of whose text it is known whether it is canonical, as a JSON object: the features
-/// of each layer by their numbers from 0, and pairs of vertices by their absolute numbers. What isn't asked for is null.
+/// What is asked about a topology, of whose text it is known whether it is canonical, as a JSON object: the features of each
+/// layer by their numbers from 0, and pairs of vertices by their absolute numbers. What isn't asked for is null.
 ///
 /// # Errors
-/// `OutOfMemory`; a beginning of the text was kept then.
-pub fn write_quality(
+/// `OutOfMemory`.
+pub fn quality_text(
     alloc: Global,
     topology: &Topology,
     is_canonical: bool,
     tests: &QualityTests,
-    kept: &mut Kept,
-) -> Result<(), OutOfMemory>
-    ensures { OnOk result ((t : List ℕ) × IsQualityText tests.now is_canonical topology.now t × TookAll (kept_seen kept.old) (kept_seen kept.new) t) }
+) -> Result<Vec<u8>, OutOfMemory>
+    ensures { IfOk result (λ t. IsQualityText tests.now is_canonical topology.now t.items) }
 {
     let lists = lists_asked(alloc, topology, tests.ids)?;
     let near = near_asked(alloc, topology, tests)?;
-    write_found(is_canonical, &lists, &topology.grid(), &near, kept)?;
-    Ok(())
+    let grid = topology.grid();
+    let (lists, near) = (ListsOrNull(&lists), NearOrNull(&near, &grid));
+    to_bytes(alloc, &(Verdict(is_canonical), lists, ",\"near\":", near, "}"))
 }

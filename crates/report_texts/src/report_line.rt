@@ -3,10 +3,8 @@ ghost use Rattle.report_texts.specs.Parts.{numbers_text};
 ghost use Rattle.report_texts.specs.ReportParts.{joined_counts, line_text, map_origin, map_origin_text, shared_counts};
 ghost use Rattle.report_texts.specs.ReportText.{counts_text, equal_of, fix_counts, fixed_text, joined_of, joined_text, origin_of, outcome_text, pair_or_null, position_of, position_text, report_if, report_line, shared_of, shared_text};
 ghost use Rattle.shapes.specs.Parts.{spelled_text};
-ghost use Rattle.sinks.specs.InMemory.{kept_seen};
-ghost use Rattle.sinks.specs.Writes.{TookAll};
 ghost use Rattle.std.specs.Option.{option_map};
-ghost use Rattle.std.specs.Prelude.{◌≡◌, IfOk, OnOk, map, string_bytes};
+ghost use Rattle.std.specs.Prelude.{◌≡◌, ◌++◌, IfOk, map, string_bytes};
 
 use faults::OutOfMemory;
 use fixing::{FeatureFixes, Fixes};
@@ -14,7 +12,7 @@ use grid::Pos;
 use rounded_maps::{EqualFeatures, Origin, Outcome, Rounded};
 use shapes::Spelled;
 use sinks::written::{Listed, Notation, Number, Numbers, Pair, Written};
-use sinks::{Kept, Sink, WriteFault};
+use sinks::{Sink, WriteFault, to_bytes};
 use snapping::nearly_shared::{Clusters, VertexCounts};
 use std::alloc::Global;
 
@@ -342,21 +340,21 @@ fn line_of<'a>(rounded: &'a Rounded, origins: &'a [MapOrigin]) -> RoundingReport
     }
 }
 
-/// Writes the report of maps, and its line's end, where it is asked for.
-pub fn write_report(
+/// The report of maps, and its line's end, where it is asked for, and then another text.
+///
+/// # Errors
+/// `OutOfMemory`.
+pub fn text_with_report<T: Written>(
     alloc: Global,
     reports: bool,
     rounded: &Rounded,
-    kept: &mut Kept,
-) -> Result<(), OutOfMemory>
-    ensures { OnOk result (TookAll (kept_seen kept.old) (kept_seen kept.new) (report_if reports rounded.now)) }
+    text: &T,
+) -> Result<Vec<u8>, OutOfMemory>
+    ensures { IfOk result (λ t. t.items ≡ report_if reports rounded.now ++ T.text text.now) }
 {
     if !reports {
-        return Ok(());
+        return to_bytes(alloc, text);
     }
     let origins = spelled_origins(alloc, rounded.origins.as_slice())?;
-    match line_of(rounded, origins.as_slice()).write(kept) {
-        Ok(()) => Ok(()),
-        Err(_) => Err(OutOfMemory),
-    }
+    to_bytes(alloc, &(line_of(rounded, origins.as_slice()), text))
 }

@@ -96,6 +96,17 @@ pub trait Notation<T> {
     fn write_value<W: Sink>(&self, value: &T, sink: &mut W) -> Result<(), WriteFault>
         ensures whole { OnOk result (TookAll (W.seen sink.old) (W.seen sink.new) (text self.now value.now)) }
         ensures part { OnErr result (TookPart (W.seen sink.old) (W.seen sink.new) (text self.now value.now)) };
+
+    /// Writes a comma and the value.
+    fn write_after_comma<W: Sink>(&self, value: &T, sink: &mut W) -> Result<(), WriteFault>
+        ensures whole { OnOk result (TookAll (W.seen sink.old) (W.seen sink.new) (after_comma (text self.now) value.now)) }
+        ensures part { OnErr result (TookPart (W.seen sink.old) (W.seen sink.new) (after_comma (text self.now) value.now)) }
+    {
+        match put(sink, b",") {
+            Ok(()) => self.write_value(value, sink),
+            Err(fault) => Err(fault),
+        }
+    }
 }
 
 impl<'a, T, N: Notation<T>> Notation<T> for &'a N {
@@ -103,6 +114,10 @@ impl<'a, T, N: Notation<T>> Notation<T> for &'a N {
 
     fn write_value<W: Sink>(&self, value: &T, sink: &mut W) -> Result<(), WriteFault> {
         N::write_value(*self, value, sink)
+    }
+
+    fn write_after_comma<W: Sink>(&self, value: &T, sink: &mut W) -> Result<(), WriteFault> {
+        N::write_after_comma(*self, value, sink)
     }
 }
 
@@ -115,6 +130,18 @@ impl<'a, T, N: Notation<T>> Written for Noted<'a, T, N> {
 
     fn write<W: Sink>(&self, sink: &mut W) -> Result<(), WriteFault> {
         self.1.write_value(self.0, sink)
+    }
+}
+
+/// A value in a notation, after a comma.
+#[derive(Clone, Copy)]
+pub struct AfterComma<'a, T, N>(pub &'a T, pub &'a N);
+
+impl<'a, T, N: Notation<T>> Written for AfterComma<'a, T, N> {
+    ghost text = { λ v. after_comma (N.text v.1.now) v.0.now };
+
+    fn write<W: Sink>(&self, sink: &mut W) -> Result<(), WriteFault> {
+        self.1.write_after_comma(self.0, sink)
     }
 }
 
@@ -158,7 +185,7 @@ fn write_others<W: Sink, T, N: Notation<T>>(
 {
     let mut left = others;
     while let Some((value, after)) = left.split_first() {
-        match (",", Noted(value, notation)).write(sink) {
+        match notation.write_after_comma(value, sink) {
             Ok(()) => left = after,
             Err(fault) => return Err(fault),
         }
