@@ -1,5 +1,5 @@
 //! What differs, as one JSON object, compact and with its members in byte order.
-ghost use Rattle.difference_text.specs.DifferenceJson.{change_object, difference_json, geometry_member, geometry_value, has_objects, ids_at, ids_text, is_missing, key_member, kinds_member, layer_objects, member_object, member_values, names_text, objects_text, properties_at, single_object};
+ghost use Rattle.difference_text.specs.DifferenceJson.{change_object, difference_json, geometry_member, geometry_value, has_objects, ids_at, ids_text, is_missing, key_member, layer_objects, member_object, member_values, names_text, objects_text, properties_at, single_object};
 ghost use Rattle.difference_text.specs.DifferenceParts.{layer_report, report_of};
 ghost use Rattle.sinks.specs.Writes.{TookAll, TookPart};
 ghost use Rattle.std.specs.Prelude.{◌≡◌, ◌||◌, OnErr, OnOk, false, slice_get};
@@ -131,20 +131,6 @@ impl<'a> Written for IdsAt<'a> {
     }
 }
 
-/// The kinds of two geometries, where they differ.
-#[derive(Clone, Copy)]
-struct KindsMember<'a>(&'a Body, &'a Body);
-
-impl<'a> Written for KindsMember<'a> {
-    ghost text = { λ k. kinds_member k.0.now k.1.now };
-
-    fn write<W: Sink>(&self, sink: &mut W) -> Result<(), WriteFault> {
-        let old = ("\",\"old\":\"", KindName(self.0), "\"}");
-        let kinds = (",\"kind\":{\"new\":\"", KindName(self.1), old);
-        OneOf(is_one_kind(self.0, self.1), "", kinds).write(sink)
-    }
-}
-
 /// What differs between two geometries.
 #[derive(Clone, Copy)]
 struct GeometryValue<'a>(GeometryChange, &'a Body, &'a Body);
@@ -158,7 +144,15 @@ impl<'a> Written for GeometryValue<'a> {
             GeometryChange::Order => "\"vertex order only\"".write(sink),
             GeometryChange::Vertices { gone, new } => {
                 let (gone, new) = (("{\"gone\":", Number(gone)), (",\"new\":", Number(new)));
-                (gone, KindsMember(self.1, self.2), new, "}").write(sink)
+                let old = ("\",\"old\":\"", KindName(self.1), "\"}");
+                let kinds = (",\"kind\":{\"new\":\"", KindName(self.2), old);
+                (
+                    gone,
+                    OneOf(is_one_kind(self.1, self.2), "", kinds),
+                    new,
+                    "}",
+                )
+                    .write(sink)
             }
         }
     }

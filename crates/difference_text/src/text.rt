@@ -1,5 +1,5 @@
 //! What differs, as lines for people.
-ghost use Rattle.difference_text.specs.DifferenceLines.{change_line, counts_line, difference_lines, feature_name, geometry_line, geometry_part, ids_part, kinds_part, layer_head, layer_lines, layers_part, member_line, parts_text, single_line};
+ghost use Rattle.difference_text.specs.DifferenceLines.{change_line, counts_line, difference_lines, feature_name, geometry_line, geometry_part, layer_head, layer_lines, layers_part, member_line, parts_text, single_line};
 ghost use Rattle.difference_text.specs.DifferenceParts.{layer_report, report_of};
 ghost use Rattle.sinks.specs.Writes.{TookAll, TookPart};
 ghost use Rattle.std.specs.Prelude.{OnErr, OnOk};
@@ -66,19 +66,6 @@ impl<'a> Notation<Single> for SingleLines<'a> {
     }
 }
 
-/// The ids of two features, where they differ.
-#[derive(Clone, Copy)]
-struct IdsPart<'a>(&'a Id, &'a Id);
-
-impl<'a> Written for IdsPart<'a> {
-    ghost text = { λ i. ids_part i.0.now i.1.now };
-
-    fn write<W: Sink>(&self, sink: &mut W) -> Result<(), WriteFault> {
-        let ids = ("id: ", self.0, " -> ", self.1);
-        If(has_other_id(self.0, self.1), ids).write(sink)
-    }
-}
-
 /// Properties that differ, each as its name and its values.
 #[derive(Clone, Copy)]
 struct MemberLines;
@@ -89,19 +76,6 @@ impl Notation<MemberChange> for MemberLines {
     fn write_value<W: Sink>(&self, value: &MemberChange, sink: &mut W) -> Result<(), WriteFault> {
         let (old, new) = (TextOr("missing", &value.old), TextOr("missing", &value.new));
         (&value.name, ": ", old, " -> ", new).write(sink)
-    }
-}
-
-/// The kinds of two geometries, where they differ.
-#[derive(Clone, Copy)]
-struct KindsPart<'a>(&'a Body, &'a Body);
-
-impl<'a> Written for KindsPart<'a> {
-    ghost text = { λ k. kinds_part k.0.now k.1.now };
-
-    fn write<W: Sink>(&self, sink: &mut W) -> Result<(), WriteFault> {
-        let kinds = (KindName(self.0), " -> ", KindName(self.1), ", ");
-        OneOf(is_one_kind(self.0, self.1), "", kinds).write(sink)
     }
 }
 
@@ -117,14 +91,10 @@ impl<'a> Written for GeometryLine<'a> {
             GeometryChange::Direction => direction_words(self.1).write(sink),
             GeometryChange::Order => "vertex order only".write(sink),
             GeometryChange::Vertices { gone, new } => {
+                let kinds = (KindName(self.1), " -> ", KindName(self.2), ", ");
+                let kinds = OneOf(is_one_kind(self.1, self.2), "", kinds);
                 let gone = Counted(gone as u128, " vertex", " vertices");
-                (
-                    KindsPart(self.1, self.2),
-                    gone,
-                    (" gone, ", Number(new)),
-                    " new",
-                )
-                    .write(sink)
+                (kinds, gone, (" gone, ", Number(new)), " new").write(sink)
             }
         }
     }
@@ -170,7 +140,8 @@ impl<'a> Written for PartsText<'a> {
             &self.1.body,
             &self.2.body,
         );
-        (IdsPart(&self.1.id, &self.2.id), members, geometry).write(sink)
+        let ids = If(is_behind, ("id: ", &self.1.id, " -> ", &self.2.id));
+        (ids, members, geometry).write(sink)
     }
 }
 

@@ -48,7 +48,11 @@ struct FileLines {
 impl<'a> Notation<FileReports<'a>> for FileLines {
     ghost text = { λ l file. file_lines l.is_whole l.is_explained file };
 
-    fn write_value<W: Sink>(&self, value: &FileReports<'a>, sink: &mut W) -> Result<(), WriteFault> {
+    fn write_value<W: Sink>(
+        &self,
+        value: &FileReports<'a>,
+        sink: &mut W,
+    ) -> Result<(), WriteFault> {
         let reports = value.reports.as_slice();
         if self.is_whole {
             write_lines(value.name, reports, self.is_explained, sink)

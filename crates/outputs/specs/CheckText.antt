@@ -44,11 +44,13 @@ ids_behind of before (n ∷ ns) = one_if (not (is_as_before before (of n))) + id
 abbrev pub Finding : Type 0
 Finding = List ℕ × (List ℕ × ℕ)
 
+-- the numbers of a layer's features whose id occurs more than once in it
+abbrev pub repeated_in : LayerParts → List ℕ
+repeated_in l = numbers_of (stands_again (ids_in l.geometries)) 0 (ids_in l.geometries)
+
 -- those of a layer
 abbrev pub finding_of : LayerParts → Finding
-finding_of l =
-    let repeated : List ℕ = numbers_of (stands_again (ids_in l.geometries)) 0 (ids_in l.geometries) in
-    (numbers_of is_missing 0 (ids_in l.geometries), (repeated, ids_behind (id_at l.geometries) None repeated))
+finding_of l = (numbers_of is_missing 0 (ids_in l.geometries), (repeated_in l, ids_behind (id_at l.geometries) None (repeated_in l)))
 
 -- those that were found of a layer
 abbrev pub layer_finding : LayerIds → Finding

@@ -5,7 +5,7 @@ ghost use Rattle.std.specs.Prelude.{◌≡◌, IfOk};
 mod ids;
 mod near;
 
-use crate::check_text::ids::{IdsText, LayerIds, has_no_findings, ids_asked};
+use crate::check_text::ids::{IdFindings, LayerIds, has_no_findings, ids_asked};
 use crate::check_text::near::{NearFound, NearText, is_none_near, near_asked};
 use faults::OutOfMemory;
 use sinks::written::{OneOf, Written};
@@ -53,7 +53,7 @@ impl Written for CheckedMap {
     ghost text = { λ m. found_text m };
 
     fn write<W: Sink>(&self, sink: &mut W) -> Result<(), WriteFault> {
-        let ids = IdsText(self.topology.layers(), &self.ids);
+        let ids = IdFindings(self.topology.layers(), &self.ids);
         (ids, NearText(&self.topology, &self.near)).write(sink)
     }
 }

@@ -192,5 +192,8 @@ pub fn quality_text(
     let near = near_asked(alloc, topology, tests)?;
     let grid = topology.grid();
     let (lists, near) = (ListsOrNull(&lists), NearOrNull(&near, &grid));
-    to_bytes(alloc, &(Verdict(is_canonical), lists, ",\"near\":", near, "}"))
+    to_bytes(
+        alloc,
+        &(Verdict(is_canonical), lists, ",\"near\":", near, "}"),
+    )
 }

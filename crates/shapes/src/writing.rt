@@ -64,15 +64,15 @@ impl<'a> Written for IdMember<'a> {
     }
 }
 
-/// The member `properties` and a comma; nothing where there are none.
+/// The member `properties` and a comma, by the compact text of an object; nothing where it is empty.
 #[derive(Clone, Copy)]
-pub struct PropertiesMember<'a>(pub &'a Props);
+pub struct PropertiesMember<'a>(pub &'a str);
 
 impl<'a> Written for PropertiesMember<'a> {
-    ghost text = { λ p. properties_member (properties_text p.0.now) };
+    ghost text = { λ p. properties_member p.0.now };
 
     fn write<W: Sink>(&self, sink: &mut W) -> Result<(), WriteFault> {
-        if self.0.is_empty() {
+        if self.0 == "{}" {
             return Ok(());
         }
         ("\"properties\":", self.0, ",").write(sink)

@@ -95,7 +95,11 @@ impl<'m, F: Files, E: Sink> Progress<'m, F, E> {
 
     /// A line of a stage and its counts, with the seconds since the last one, where there is a clock. Positions are those of
     /// the arcs.
-    fn put_line<S: Written, C: Written>(&mut self, stage: S, counts: C) -> Result<(), WriteFault> {
+    fn put_line<S: Written + Drop, C: Written + Drop>(
+        &mut self,
+        stage: S,
+        counts: C,
+    ) -> Result<(), WriteFault> {
         let now = self.files.milliseconds();
         let took = match (self.since, now) {
             (Some(since), Some(now)) => Some(seconds(now.saturating_sub(since))),

@@ -4,11 +4,12 @@ use Rattle.grid.specs.Place.{Transform}
 use Rattle.grid.specs.declared.pos.Pos.{Pos}
 use Rattle.arcs.specs.Arcs.{Arcs}
 use Rattle.shapes.specs.Forms.{is_null, kind_name}
-use Rattle.shapes.specs.Parts.{spelled_text}
+use Rattle.shapes.specs.Parts.{properties_text, spelled_text}
 use Rattle.shapes.specs.Spelling.{spelling_of}
 use Rattle.shapes.specs.declared.spelled.Spelled.{Spelled}
 use Rattle.shapes.specs.declared.form.Form.TheVariants as of
 use Rattle.shapes.specs.Writing.Forms.{content_member, form_content}
+use Rattle.shapes.specs.Writing.Members.{id_text, properties_member}
 use Rattle.sinks.specs.Texts.{joined, list_text, option_text}
 use Rattle.topo.specs.Bodies.{Body}
 use Rattle.topo.specs.Parts.{Corners, LayerParts, TopologyParts}
@@ -43,6 +44,12 @@ type_of (of.MultiPolygon ps) = refl
 
 pub type_is : (b : Body) {n : Bool} → n ≡ is_null b → cond n (codes "null") (codes "\"" ++ (kind_name b ++ codes "\"")) ≡ type_text (body_of b)
 type_is b {n} e = ap (λ x. cond x (codes "null") (codes "\"" ++ (kind_name b ++ codes "\""))) e ∙ type_of b
+
+-- a geometry, of the text of its properties
+pub geometry_is : (g : Geom) {p : List ℕ} → p ≡ properties_text g.props
+    → codes "{" ++ (content_text (body_of g.body) ++ (id_text g.id ++ (properties_member p ++ (codes "\"type\":" ++ (type_text (body_of g.body) ++ codes "}"))))) ≡ geometry_text (item_of g)
+geometry_is g {p} e =
+    ap (λ x. codes "{" ++ (content_text (body_of g.body) ++ (id_text g.id ++ (properties_member x ++ (codes "\"type\":" ++ (type_text (body_of g.body) ++ codes "}")))))) e
 
 -- a layer's name and its geometries, as they are written
 pub layer_is : (l : LayerParts) {s : Spelled} {gs : List Geom} → s ≡ l.name → gs ≡ l.geometries

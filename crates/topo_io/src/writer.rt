@@ -18,9 +18,9 @@ use topo::topology::{Layer, Topology};
 
 /// What a geometry is made of, as a member and a comma; nothing for the null geometry.
 #[derive(Clone, Copy)]
-struct Content<'a>(&'a Body);
+struct BodyMember<'a>(&'a Body);
 
-impl<'a> Written for Content<'a> {
+impl<'a> Written for BodyMember<'a> {
     ghost text = { λ c. content_text (body_of c.0.now) };
 
     fn write<W: Sink>(&self, sink: &mut W) -> Result<(), WriteFault> {
@@ -55,11 +55,11 @@ impl Notation<Geom> for Geometries {
     ghost text = { λ _ g. geometry_text (item_of g) };
 
     fn write_value<W: Sink>(&self, value: &Geom, sink: &mut W) -> Result<(), WriteFault> {
-        let properties = PropertiesMember(&value.props);
+        let properties = PropertiesMember(value.props.text());
         let name = ("\"type\":", TypeName(&value.body), "}");
         (
             "{",
-            Content(&value.body),
+            BodyMember(&value.body),
             IdMember(&value.id),
             properties,
             name,

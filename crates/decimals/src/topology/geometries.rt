@@ -1,11 +1,10 @@
 //! The texts of geometries.
 ghost use Rattle.decimals.specs.Topology.TopologyText.{body_text, geometry_text, layer_text};
-ghost use Rattle.shapes.specs.Writing.Members.{properties_member};
 
 use crate::topology::layers::{BackGeometry, BackLayer};
 use arcs::writing::ArcIndexes;
 use grid::Pos;
-use shapes::writing::{ContentMember, FormContent, IdMember, KindName, Lists};
+use shapes::writing::{ContentMember, FormContent, IdMember, KindName, Lists, PropertiesMember};
 use sinks::written::{Listed, Notation, OneOf, Written};
 use sinks::{Sink, WriteFault};
 use topo::geom::Body;
@@ -29,21 +28,6 @@ impl<'a, N: Notation<Pos>> Written for BodyText<'a, N> {
         let member = ContentMember(self.body, &content);
         let body = ("\"", KindName(self.body), "\",", member);
         OneOf(self.body.is_null(), "null", body).write(sink)
-    }
-}
-
-/// The member `properties` and a comma; nothing where there are none.
-#[derive(Clone, Copy)]
-struct PropertiesMember<'a>(&'a str);
-
-impl<'a> Written for PropertiesMember<'a> {
-    ghost text = { λ p. properties_member p.0.now };
-
-    fn write<W: Sink>(&self, sink: &mut W) -> Result<(), WriteFault> {
-        if self.0 == "{}" {
-            return Ok(());
-        }
-        ("\"properties\":", self.0, ",").write(sink)
     }
 }
 

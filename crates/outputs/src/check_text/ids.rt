@@ -47,12 +47,12 @@ fn count_ids(geometries: &[Geom], numbers: &[usize]) -> usize
 {
     let mut before = None;
     let mut count = 0;
-    for number in numbers {
+    let mut left = numbers;
+    while let Some((number, after)) = left.split_first() {
         let id = id_at(geometries, *number);
-        if !is_as_before(before, id) {
-            count += 1;
-        }
+        count += usize::from(!is_as_before(before, id));
         before = Some(id);
+        left = after;
     }
     count
 }
@@ -140,7 +140,14 @@ impl<'a> Notation<usize> for MissingLines<'a> {
     ghost text = { λ l n. missing_line l.0.now n };
 
     fn write_value<W: Sink>(&self, value: &usize, sink: &mut W) -> Result<(), WriteFault> {
-        ("layer ", self.0.name(), ": feature ", Number(*value), " has no id\n").write(sink)
+        (
+            "layer ",
+            self.0.name(),
+            ": feature ",
+            Number(*value),
+            " has no id\n",
+        )
+            .write(sink)
     }
 }
 
@@ -157,7 +164,14 @@ impl<'a> Written for RepeatedLines<'a> {
         while let Some((number, after)) = left.split_first() {
             let id = id_at(self.0.geometries(), *number);
             let end = If(before.is_some(), "\n");
-            let head = (end, "layer ", self.0.name(), ": id ", id, " more than once: features ");
+            let head = (
+                end,
+                "layer ",
+                self.0.name(),
+                ": id ",
+                id,
+                " more than once: features ",
+            );
             let front = OneOf(is_as_before(before, id), ", ", head);
             match (front, Number(*number)).write(sink) {
                 Ok(()) => left = after,
@@ -196,9 +210,9 @@ impl<'a> Written for LayerIdLines<'a> {
 
 /// How many ids are missing and occur more than once, and a line for each, where that was asked for.
 #[derive(Clone, Copy)]
-pub(crate) struct IdsText<'a>(pub(crate) &'a [Layer], pub(crate) &'a Option<Vec<LayerIds>>);
+pub(crate) struct IdFindings<'a>(pub(crate) &'a [Layer], pub(crate) &'a Option<Vec<LayerIds>>);
 
-impl<'a> Written for IdsText<'a> {
+impl<'a> Written for IdFindings<'a> {
     ghost text = { λ i. ids_text i.0.now i.1.now };
 
     fn write<W: Sink>(&self, sink: &mut W) -> Result<(), WriteFault> {
@@ -209,6 +223,14 @@ impl<'a> Written for IdsText<'a> {
         let missing = Counted(counts.missing, " feature", " features");
         let repeated = Counted(counts.repeated, " id", " ids");
         let lines = LayerIdLines(self.0, ids.as_slice());
-        ("ids: ", missing, " without an id, ", repeated, " more than once\n", lines).write(sink)
+        (
+            "ids: ",
+            missing,
+            " without an id, ",
+            repeated,
+            " more than once\n",
+            lines,
+        )
+            .write(sink)
     }
 }

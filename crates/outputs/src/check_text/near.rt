@@ -128,9 +128,16 @@ impl<'a> Written for NearText<'a> {
             return Ok(());
         };
         let count = near.vertices.count;
-        let pairs = Counted(count, " pair of vertices at most ", " pairs of vertices at most ");
+        let pairs = Counted(
+            count,
+            " pair of vertices at most ",
+            " pairs of vertices at most ",
+        );
         let steps = Counted(u128::from(near.steps), " step", " steps");
-        let first = If(count > PRINTED_PAIRS as u128, (", the first ", Number(PRINTED_PAIRS)));
+        let first = If(
+            count > PRINTED_PAIRS as u128,
+            (", the first ", Number(PRINTED_PAIRS)),
+        );
         let lines = InTurn(near.vertices.first.as_slice(), &NearLines(self.0));
         ("near: ", pairs, steps, " apart", first, "\n", lines).write(sink)
     }
