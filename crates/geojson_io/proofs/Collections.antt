@@ -5,7 +5,7 @@ use Rattle.grid.specs.declared.pos.Pos.{Pos}
 use Rattle.shapes.specs.declared.feature.Feature.{Feature}
 use Rattle.sinks.specs.Texts.{joined, framed}
 use Rattle.sinks.proofs.Items.{one_more_text}
-use Rattle.shapes.proofs.WritingLemmas.Joined.{joined_map}
+use Rattle.sinks.proofs.Joined.{joined_map}
 use Rattle.geojson_io.specs.CollectionText.{place_text, closed_text, feature_text, collection_text}
 
 -- the vertices of a ring, and the first once more

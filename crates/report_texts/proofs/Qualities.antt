@@ -3,7 +3,7 @@ use Rattle.std.proofs.Common.{◌≡◌, ◌∙◌, Bool, Option, None, Some, Ve
 use Rattle.std.specs.declared.alloc.Global.{Global}
 use Rattle.compare.specs.declared.quality.near.NearVertices.{NearVertices}
 use Rattle.grid.specs.Place.{Transform}
-use Rattle.shapes.proofs.WritingLemmas.Joined.{list_text_map}
+use Rattle.sinks.proofs.Joined.{list_text_map}
 use Rattle.report_texts.specs.QualityParts.{layer_lists, lists_found, text_or_null}
 use Rattle.report_texts.specs.QualityText.{AreNearIf, IsQualityText, found_text, layer_lists_text, lists_if, lists_text}
 use Rattle.report_texts.specs.declared.quality_text.IdLists.{IdLists}

@@ -4,7 +4,7 @@ use Rattle.rounded_maps.specs.declared.building.Rounded.{Rounded}
 use Rattle.rounded_maps.specs.declared.equal.EqualFeatures.{EqualFeatures}
 use Rattle.rounded_maps.specs.declared.files.Origin.{Origin}
 use Rattle.rounded_maps.specs.declared.outcome.Outcome.{Outcome}
-use Rattle.shapes.proofs.WritingLemmas.Joined.{list_text_map}
+use Rattle.sinks.proofs.Joined.{list_text_map}
 use Rattle.sinks.specs.Texts.{list_text}
 use Rattle.report_texts.specs.ReportParts.{map_origin, map_origin_text}
 use Rattle.report_texts.specs.ReportText.{Joins, Shares, equal_of, joined_of, origin_of, place_text, report_line, report_of, shared_of}

@@ -1,11 +1,10 @@
 //! The number of a fault, and the path to it, as they are printed.
 
-ghost use Rattle.sinks.specs.PathText.PathText.{byte_text, bytes_text, path_text, step_text, steps_text};
+ghost use Rattle.sinks.specs.PathText.PathText.{byte_text, path_text, step_text};
 ghost use Rattle.faults.specs.Fault.{name_of, number_of, turn_of};
-ghost use Rattle.sinks.specs.Writes.{TookAll, TookPart};
-ghost use Rattle.std.specs.Prelude.{◌++◌, codes, decimal, map, OnErr, OnOk};
+ghost use Rattle.std.specs.Prelude.{◌++◌, codes, decimal, map};
 
-use crate::written::{Number, Written};
+use crate::written::{InTurn, Notation, Number, Written};
 use crate::{Sink, WriteFault, put};
 use faults::{FaultKind, Step};
 
@@ -33,63 +32,34 @@ impl Written for FaultName {
     }
 }
 
-/// Writes a byte of a member's name: `~0` for `~`, `~1` for `/`, and any other as it is.
-fn write_byte<W: Sink>(sink: &mut W, byte: u8) -> Result<(), WriteFault>
-    ensures whole { OnOk result (TookAll (W.seen sink.old) (W.seen sink.new) (byte_text byte)) }
-    ensures part { OnErr result (TookPart (W.seen sink.old) (W.seen sink.new) (byte_text byte)) }
-{
-    match byte {
-        b'~' => put(sink, b"~0"),
-        b'/' => put(sink, b"~1"),
-        _ => put(sink, &[byte]),
-    }
-}
-
-fn write_bytes<W: Sink>(sink: &mut W, bytes: &[u8]) -> Result<(), WriteFault>
-    ensures whole { OnOk result (TookAll (W.seen sink.old) (W.seen sink.new) (bytes_text bytes.now)) }
-    ensures part { OnErr result (TookPart (W.seen sink.old) (W.seen sink.new) (bytes_text bytes.now)) }
-{
-    let mut left = bytes;
-    while let Some((byte, after)) = left.split_first() {
-        match write_byte(sink, *byte) {
-            Ok(()) => left = after,
-            Err(fault) => return Err(fault),
-        }
-    }
-    Ok(())
-}
-
-/// A step, as the name of a member or the index of an element.
+/// Bytes of a member's name: `~0` for `~`, `~1` for `/`, and any other as it is.
 #[derive(Clone, Copy)]
-struct StepText<'a>(&'a Step);
+struct NameBytes;
 
-impl<'a> Written for StepText<'a> {
-    ghost text = { λ step. step_text (turn_of step.0.now) };
+impl Notation<u8> for NameBytes {
+    ghost text = { λ _ b. byte_text b };
 
-    fn write<W: Sink>(&self, sink: &mut W) -> Result<(), WriteFault> {
-        match self.0 {
-            Step::Name(name) => write_bytes(sink, name.as_bytes()),
-            Step::Index(index) => Number(*index).write(sink),
+    fn write_value<W: Sink>(&self, value: &u8, sink: &mut W) -> Result<(), WriteFault> {
+        match *value {
+            b'~' => put(sink, b"~0"),
+            b'/' => put(sink, b"~1"),
+            byte => put(sink, &[byte]),
         }
     }
 }
 
-/// Steps, each after a slash.
+/// Steps, each after a slash, as the name of a member or the index of an element.
 #[derive(Clone, Copy)]
-struct StepsText<'a>(&'a [Step]);
+struct StepTexts;
 
-impl<'a> Written for StepsText<'a> {
-    ghost text = { λ s. steps_text (map turn_of s.0.now) };
+impl Notation<Step> for StepTexts {
+    ghost text = { λ _ step. codes "/" ++ step_text (turn_of step) };
 
-    fn write<W: Sink>(&self, sink: &mut W) -> Result<(), WriteFault> {
-        let mut left = self.0;
-        while let Some((step, after)) = left.split_first() {
-            match ("/", StepText(step)).write(sink) {
-                Ok(()) => left = after,
-                Err(fault) => return Err(fault),
-            }
+    fn write_value<W: Sink>(&self, value: &Step, sink: &mut W) -> Result<(), WriteFault> {
+        match value {
+            Step::Name(name) => ("/", InTurn(name.as_bytes(), &NameBytes)).write(sink),
+            Step::Index(index) => ("/", Number(*index)).write(sink),
         }
-        Ok(())
     }
 }
 
@@ -102,6 +72,6 @@ impl<'a> Written for PathText<'a> {
     ghost text = { λ p. path_text (map turn_of p.0.now) };
 
     fn write<W: Sink>(&self, sink: &mut W) -> Result<(), WriteFault> {
-        ("$", StepsText(self.0)).write(sink)
+        ("$", InTurn(self.0, &StepTexts)).write(sink)
     }
 }

@@ -1,7 +1,7 @@
 //! Values that have a text, and texts put together of texts. A text is written piece by piece
 //! through `put`, with no memory. A tuple's text is those of its parts, one after the other.
 ghost use Rattle.sinks.specs.Seen.{Seen};
-ghost use Rattle.sinks.specs.Texts.{bracketed, joined, after_comma, after_commas, list_text, option_text, pair_text};
+ghost use Rattle.sinks.specs.Texts.{bracketed, joined, after_comma, list_text, option_text, pair_text};
 ghost use Rattle.sinks.specs.Writes.{TookAll, TookPart};
 ghost use Rattle.std.specs.Prelude.{◌≡◌, ℕ, ℤ, ◌<◌, ◌≤◌, ◌++◌, length, List, [], codes, OnErr, OnOk, string_bytes};
 
@@ -165,32 +165,19 @@ impl<'a, T, N: Notation<T>> Written for Each<'a, T, N> {
     ghost text = { λ e. joined (N.text e.1.now) e.0.now };
 
     fn write<W: Sink>(&self, sink: &mut W) -> Result<(), WriteFault> {
-        match self.0.split_first() {
-            Some((first, others)) => match self.1.write_value(first, sink) {
-                Ok(()) => write_others(sink, self.1, others),
-                Err(fault) => Err(fault),
-            },
-            None => Ok(()),
+        let Some((first, others)) = self.0.split_first() else {
+            return Ok(());
+        };
+        self.1.write_value(first, sink)?;
+        let mut left = others;
+        while let Some((value, after)) = left.split_first() {
+            match self.1.write_after_comma(value, sink) {
+                Ok(()) => left = after,
+                Err(fault) => return Err(fault),
+            }
         }
+        Ok(())
     }
-}
-
-fn write_others<W: Sink, T, N: Notation<T>>(
-    sink: &mut W,
-    notation: &N,
-    others: &[T],
-) -> Result<(), WriteFault>
-    ensures whole { OnOk result (TookAll (W.seen sink.old) (W.seen sink.new) (after_commas (N.text notation.now) others.now)) }
-    ensures part { OnErr result (TookPart (W.seen sink.old) (W.seen sink.new) (after_commas (N.text notation.now) others.now)) }
-{
-    let mut left = others;
-    while let Some((value, after)) = left.split_first() {
-        match notation.write_after_comma(value, sink) {
-            Ok(()) => left = after,
-            Err(fault) => return Err(fault),
-        }
-    }
-    Ok(())
 }
 
 /// Two numbers in brackets.

@@ -17,7 +17,7 @@ use Rattle.topo.specs.OfMap.{body_of, item_of, layer_of, seen_parts}
 use Rattle.topo.specs.declared.geom.Geom.{Geom}
 use Rattle.arcs.specs.ArcTexts.{arc_text, index_text, position_text}
 use Rattle.topo_io.specs.TopologyText.{content_text, geometry_text, layer_text, type_text, bbox_text, transform_of, transform_text, topology_text}
-use Rattle.shapes.proofs.WritingLemmas.Joined.{joined_map, list_text_map}
+use Rattle.sinks.proofs.Joined.{joined_map, list_text_map}
 
 -- what a geometry is made of, as it is written
 content_of : (b : Body) → cond (is_null b) [] (content_member (form_content position_text (list_text index_text) (list_text index_text) b) b ++ codes ",") ≡ content_text (body_of b)
@@ -32,8 +32,8 @@ content_of (of.MultiPolygon ps) = refl
 pub content_is : (b : Body) {n : Bool} → n ≡ is_null b → cond n [] (content_member (form_content position_text (list_text index_text) (list_text index_text) b) b ++ codes ",") ≡ content_text (body_of b)
 content_is b {n} e = ap (λ x. cond x [] (content_member (form_content position_text (list_text index_text) (list_text index_text) b) b ++ codes ",")) e ∙ content_of b
 
--- the name of its type, as it is written
-type_of : (b : Body) → cond (is_null b) (codes "null") (codes "\"" ++ (kind_name b ++ codes "\"")) ≡ type_text (body_of b)
+-- the name of its type, and its end, as they are written
+type_of : (b : Body) → cond (is_null b) (codes "\"type\":null}") (codes "\"type\":\"" ++ (kind_name b ++ codes "\"}")) ≡ codes "\"type\":" ++ (type_text (body_of b) ++ codes "}")
 type_of of.Null = refl
 type_of (of.Point p) = refl
 type_of (of.MultiPoint ps) = refl
@@ -42,8 +42,8 @@ type_of (of.MultiLine ls) = refl
 type_of (of.Polygon rs) = refl
 type_of (of.MultiPolygon ps) = refl
 
-pub type_is : (b : Body) {n : Bool} → n ≡ is_null b → cond n (codes "null") (codes "\"" ++ (kind_name b ++ codes "\"")) ≡ type_text (body_of b)
-type_is b {n} e = ap (λ x. cond x (codes "null") (codes "\"" ++ (kind_name b ++ codes "\""))) e ∙ type_of b
+pub type_is : (b : Body) {n : Bool} → n ≡ is_null b → cond n (codes "\"type\":null}") (codes "\"type\":\"" ++ (kind_name b ++ codes "\"}")) ≡ codes "\"type\":" ++ (type_text (body_of b) ++ codes "}")
+type_is b {n} e = ap (λ x. cond x (codes "\"type\":null}") (codes "\"type\":\"" ++ (kind_name b ++ codes "\"}"))) e ∙ type_of b
 
 -- a geometry, of the text of its properties
 pub geometry_is : (g : Geom) {p : List ℕ} → p ≡ properties_text g.props

@@ -3,7 +3,7 @@
 ghost use Rattle.grid.specs.Place.{IsTransform};
 ghost use Rattle.sinks.specs.Texts.{option_text};
 ghost use Rattle.sinks.specs.Writes.{TookAll, TookPart};
-ghost use Rattle.std.specs.Prelude.{◌≡◌, IfOk, OnErr, OnOk};
+ghost use Rattle.std.specs.Prelude.{◌≡◌, ◌++◌, IfOk, OnErr, OnOk, codes};
 ghost use Rattle.topo.specs.OfMap.{body_of, item_of, layer_of, seen_parts};
 ghost use Rattle.topo_io.specs.TopologyText.{content_text, type_text, geometry_text, layer_text, bbox_text, transform_of, transform_text, topology_text};
 
@@ -34,16 +34,16 @@ impl<'a> Written for BodyMember<'a> {
     }
 }
 
-/// The name of a geometry's type in quotes, or `null`.
+/// The member `type` of a geometry, and its end.
 #[derive(Clone, Copy)]
-struct TypeName<'a>(&'a Body);
+struct TypeMember<'a>(&'a Body);
 
-impl<'a> Written for TypeName<'a> {
-    ghost text = { λ t. type_text (body_of t.0.now) };
+impl<'a> Written for TypeMember<'a> {
+    ghost text = { λ t. codes "\"type\":" ++ (type_text (body_of t.0.now) ++ codes "}") };
 
     fn write<W: Sink>(&self, sink: &mut W) -> Result<(), WriteFault> {
-        let name = ("\"", KindName(self.0), "\"");
-        OneOf(self.0.is_null(), "null", name).write(sink)
+        let name = ("\"type\":\"", KindName(self.0), "\"}");
+        OneOf(self.0.is_null(), "\"type\":null}", name).write(sink)
     }
 }
 
@@ -55,14 +55,13 @@ impl Notation<Geom> for Geometries {
     ghost text = { λ _ g. geometry_text (item_of g) };
 
     fn write_value<W: Sink>(&self, value: &Geom, sink: &mut W) -> Result<(), WriteFault> {
-        let properties = PropertiesMember(value.props.text());
-        let name = ("\"type\":", TypeName(&value.body), "}");
+        let (id, properties) = (IdMember(&value.id), PropertiesMember(value.props.text()));
         (
             "{",
             BodyMember(&value.body),
-            IdMember(&value.id),
+            id,
             properties,
-            name,
+            TypeMember(&value.body),
         )
             .write(sink)
     }

@@ -1,5 +1,5 @@
 use Rattle.std.proofs.Common.{refl}
-use Rattle.shapes.proofs.WritingLemmas.Same.{part_as, whole_as}
+use Rattle.sinks.proofs.Same.{part_as, whole_as}
 use Rattle.outputs.proofs.InfoTextLemmas.{layer_line_is}
 use Rattle.outputs.proofs.info_text.LayerLinesNotationLayer.write_value.Goals as goal
 

@@ -1,7 +1,7 @@
 use Rattle.std.proofs.Common.{◌≡◌, codes, length, refl, slice_get, sym, ap}
 use Rattle.std.proofs.lemmas.Bool.{ltb-true, ltb-false}
 use Rattle.std.proofs.lemmas.Option.{slice_get_read, slice_get_past}
-use Rattle.shapes.proofs.WritingLemmas.Same.{whole_as, part_as}
+use Rattle.sinks.proofs.Same.{whole_as, part_as}
 use Rattle.shapes.specs.Writing.Members.{id_value_text}
 use Rattle.query.specs.AnswerTexts.{id_text_of}
 use Rattle.query.proofs.writer.IdsOfNotationUsize.write_value.Goals as goal

@@ -1,7 +1,7 @@
 use Rattle.std.proofs.Common.{slice_get, sym}
 use Rattle.sinks.specs.Texts.{list_text}
-use Rattle.shapes.proofs.WritingLemmas.Joined.{list_text_map}
-use Rattle.shapes.proofs.WritingLemmas.Same.{whole_as, part_as}
+use Rattle.sinks.proofs.Joined.{list_text_map}
+use Rattle.sinks.proofs.Same.{whole_as, part_as}
 use Rattle.query.specs.AnswerTexts.{id_text_of}
 use Rattle.query.proofs.writer.NeighborIdsTextWritten.write.Goals as goal
 

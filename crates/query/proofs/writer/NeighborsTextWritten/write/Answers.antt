@@ -1,8 +1,8 @@
 use Rattle.std.proofs.Common.{sym}
 use Rattle.std.specs.Fmt.{decimal}
 use Rattle.sinks.specs.Texts.{list_text}
-use Rattle.shapes.proofs.WritingLemmas.Joined.{list_text_map}
-use Rattle.shapes.proofs.WritingLemmas.Same.{whole_as, part_as}
+use Rattle.sinks.proofs.Joined.{list_text_map}
+use Rattle.sinks.proofs.Same.{whole_as, part_as}
 use Rattle.query.proofs.writer.NeighborsTextWritten.write.Goals as goal
 
 pub returns-clause-whole : goal.returns-clause-whole

@@ -1,5 +1,5 @@
 use Rattle.topo_io.proofs.Parts.{layer_is}
-use Rattle.shapes.proofs.WritingLemmas.Same.{whole_as, part_as}
+use Rattle.sinks.proofs.Same.{whole_as, part_as}
 use Rattle.topo_io.proofs.writer.LayersNotationLayer.write_value.Goals as goal
 
 pub returns-clause-whole : goal.returns-clause-whole

@@ -1,6 +1,6 @@
 use Rattle.std.proofs.Common.{◌∙◌, ap}
 use Rattle.decimals.proofs.TopologyLemmas.Parts.{layer_is}
-use Rattle.shapes.proofs.WritingLemmas.Same.{whole_as, part_as}
+use Rattle.sinks.proofs.Same.{whole_as, part_as}
 use Rattle.decimals.proofs.topology.geometries.TypeFirstLayersNotationBackLayer.write_value.Goals as goal
 
 pub returns-clause-whole : goal.returns-clause-whole

@@ -1,7 +1,7 @@
 use Rattle.std.proofs.Common.{ap}
 use Rattle.query.specs.ByArcs.{geom_text}
 use Rattle.query.specs.Sequences.{lines}
-use Rattle.shapes.proofs.WritingLemmas.Same.{whole_as, part_as}
+use Rattle.sinks.proofs.Same.{whole_as, part_as}
 use Rattle.query.proofs.layer_text.sequence.LayerSequencesNotationLayer.write_value.Goals as goal
 
 pub returns-clause-whole : goal.returns-clause-whole

@@ -1,6 +1,6 @@
 use Rattle.topo_io.proofs.Parts.{type_is}
-use Rattle.shapes.proofs.WritingLemmas.Same.{whole_as, part_as}
-use Rattle.topo_io.proofs.writer.TypeNameWritten.write.Goals as goal
+use Rattle.sinks.proofs.Same.{whole_as, part_as}
+use Rattle.topo_io.proofs.writer.TypeMemberWritten.write.Goals as goal
 
 pub returns-clause-whole : goal.returns-clause-whole
 returns-clause-whole g c =
