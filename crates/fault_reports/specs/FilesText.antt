@@ -28,6 +28,6 @@ abbrev pub files_objects : Bool → Bool → List FileReports → List ℕ
 files_objects e is_behind [] = []
 files_objects e is_behind (f ∷ fs) = objects_text f.spelled e is_behind f.reports.items ++ files_objects e (is_behind || nat_lt 0 (length f.reports.items)) fs
 
--- the same as one JSON array
+-- the errors of files as one JSON array
 abbrev pub files_json : Bool → List FileReports → List ℕ
 files_json e fs = codes "[" ++ (files_objects e false fs ++ codes "]\n")

@@ -62,9 +62,9 @@ ids_if false t = None
 ids_if true t = Some (map finding_of t.layers)
 
 -- those that were found of layers
-abbrev pub find_ids : Option (Vec LayerIds Global) → Option (List Finding)
-find_ids None = None
-find_ids (Some ls) = Some (map layer_finding ls.items)
+abbrev pub found_ids : Option (Vec LayerIds Global) → Option (List Finding)
+found_ids None = None
+found_ids (Some ls) = Some (map layer_finding ls.items)
 
 -- how many features of a layer have no id
 abbrev pub missing_count : LayerIds → ℕ
@@ -171,5 +171,5 @@ is_good m = finds_no_ids m.ids && finds_none_near m.near
 -- what the tests that are asked for find of a topology
 pub record IsChecked (t : TopologyParts) (by_ids : Bool) (steps : Option ℕ) (m : CheckedMap) : Type 0 where
   pub topology : m.topology ≡ t
-  pub ids : find_ids m.ids ≡ ids_if by_ids t
+  pub ids : found_ids m.ids ≡ ids_if by_ids t
   pub near : AreNearIf t steps m.near

@@ -1,5 +1,5 @@
 //! Ids that are missing, and ids that occur more than once, as lines.
-ghost use Rattle.outputs.specs.CheckText.{find_ids, finding_of, finds_no_ids, id_at, id_behind, id_lines, ids_behind, ids_if, ids_text, is_as_before, layer_finding, layer_lines, missing_line, repeated_lines};
+ghost use Rattle.outputs.specs.CheckText.{found_ids, finding_of, finds_no_ids, id_at, id_behind, id_lines, ids_behind, ids_if, ids_text, is_as_before, layer_finding, layer_lines, missing_line, repeated_lines};
 ghost use Rattle.shapes.specs.declared.shape.Id as shape_ids;
 ghost use Rattle.std.specs.Option.{option_copied};
 ghost use Rattle.std.specs.Prelude.{◌≡◌, IfOk, None, map, sum};
@@ -88,7 +88,7 @@ pub(crate) fn ids_asked(
     topology: &Topology,
     is_asked: bool,
 ) -> Result<Option<Vec<LayerIds>>, OutOfMemory>
-    ensures { IfOk result (λ l. find_ids l ≡ ids_if is_asked topology.now) }
+    ensures { IfOk result (λ l. found_ids l ≡ ids_if is_asked topology.now) }
 {
     if is_asked {
         Ok(Some(ids_of_layers(alloc, topology.layers())?))
