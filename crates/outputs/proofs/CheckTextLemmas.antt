@@ -11,7 +11,7 @@ use Rattle.shapes.specs.contracts.shape.IdOrd.TheImpl.Laws.{matches_eq-law as id
 use Rattle.shapes.specs.contracts.shape.IdPartialEq.TheImpl as id_eq
 use Rattle.shapes.specs.declared.shape.Id.{Id}
 use Rattle.shapes.specs.declared.spelled.Spelled.{Spelled}
-use Rattle.sinks.specs.Texts.{each_text}
+use Rattle.sinks.specs.Texts.{each_text, option_text}
 use Rattle.topo.proofs.FeatureOrder.{id_derived_is}
 use Rattle.topo.specs.Parts.{LayerParts}
 use Rattle.topo.specs.declared.geom.Geom.{Geom}
@@ -23,24 +23,24 @@ pub same_ids : (a b : Id) (e : Bool) → e ≡ id_eq.eq-value.it a b → e ≡ i
 same_ids a b e is = is ∙ id_ties a b ∙ ap is_eq (id_derived_is a b)
 
 -- the ids of some numbers, of which the first is known
-pub ids_step : (of : ℕ → Id) (before : Option Id) (numbers ns : List ℕ) (n : ℕ) {i : Id} {b : Bool} → numbers ≡ n ∷ ns → i ≡ of n → b ≡ is_as_before before i →
-    ids_behind of before numbers ≡ one_if (not b) + ids_behind of (Some i) ns
+pub ids_step : (of : ℕ → Option Id) (before : Option Id) (numbers ns : List ℕ) (n : ℕ) {i : Option Id} {b : Bool} → numbers ≡ n ∷ ns → i ≡ of n → b ≡ is_as_before before i →
+    ids_behind of before numbers ≡ one_if (not b) + ids_behind of i ns
 ids_step of before numbers ns n {i} {b} first here same =
     let told : is_as_before before (of n) ≡ b = ap (is_as_before before) (sym here) ∙ sym same in
-    ap (ids_behind of before) first ∙ (λ j. one_if (not (told j)) + ids_behind of (Some (sym here j)) ns)
+    ap (ids_behind of before) first ∙ (λ j. one_if (not (told j)) + ids_behind of (sym here j) ns)
 
 -- the line of an id that occurs more than once, up to the number of a feature
-pub repeated_step : (l : LayerParts) (before : Option Id) (numbers ns : List ℕ) (n : ℕ) {gs : List Geom} {i : Id} {s : Spelled} {b c : Bool} → numbers ≡ n ∷ ns → gs ≡ l.geometries → i ≡ id_at gs n →
+pub repeated_step : (l : LayerParts) (before : Option Id) (numbers ns : List ℕ) (n : ℕ) {gs : List Geom} {i : Option Id} {s : Spelled} {b c : Bool} → numbers ≡ n ∷ ns → gs ≡ l.geometries → i ≡ id_at gs n →
     s ≡ l.name → b ≡ is_as_before before i → c ≡ is_some before →
     repeated_lines l before numbers
-    ≡ (cond b (codes ", ") (cond c (codes "\n") [] ++ (codes "layer " ++ (spelling_of (spelled_text s) ++ (codes ": id " ++ (id_value_text i ++ codes " more than once: features "))))) ++ decimal n)
-    ++ repeated_lines l (Some i) ns
+    ≡ (cond b (codes ", ") (cond c (codes "\n") [] ++ (codes "layer " ++ (spelling_of (spelled_text s) ++ (codes ": id " ++ (option_text id_value_text i ++ codes " more than once: features "))))) ++ decimal n)
+    ++ repeated_lines l i ns
 repeated_step l before numbers ns n {gs} {i} {s} {b} {c} first geometries here name same some =
     let id : id_at l.geometries n ≡ i = sym (here ∙ ap (λ w. id_at w n) geometries) in
     let told : is_as_before before (id_at l.geometries n) ≡ b = ap (is_as_before before) id ∙ sym same in
     ap (repeated_lines l before) first
-    ∙ (λ j. (cond (told j) (codes ", ") (cond (sym some j) (codes "\n") [] ++ (codes "layer " ++ (spelling_of (spelled_text (sym name j)) ++ (codes ": id " ++ (id_value_text (id j) ++ codes " more than once: features "))))) ++ decimal n)
-    ++ repeated_lines l (Some (id j)) ns)
+    ∙ (λ j. (cond (told j) (codes ", ") (cond (sym some j) (codes "\n") [] ++ (codes "layer " ++ (spelling_of (spelled_text (sym name j)) ++ (codes ": id " ++ (option_text id_value_text (id j) ++ codes " more than once: features "))))) ++ decimal n)
+    ++ repeated_lines l (id j) ns)
 
 -- the lines of the first of some layers, and of the others
 pub layers_step : (ls ms : List LayerParts) (l : LayerParts) (is js : List LayerIds) (i : LayerIds) {missing repeated : List ℕ} → ls ≡ l ∷ ms → is ≡ i ∷ js → missing ≡ i.missing.items →

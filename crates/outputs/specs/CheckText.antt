@@ -1,5 +1,5 @@
 -- What `check` prints: whether a text is canonical, and what the tests of its map find.
-use Rattle.std.specs.Prelude.{◌≡◌, ℕ, ◌+◌, ◌-◌, Bool, true, false, ◌&&◌, List, [], ◌∷◌, ◌++◌, None, Option, Some, Vec, codes, cond, decimal, is_some, length, map, nat_eq, nat_lt, not, slice_get, sum}
+use Rattle.std.specs.Prelude.{◌≡◌, ℕ, ◌+◌, ◌-◌, Bool, true, false, ◌&&◌, List, [], ◌∷◌, ◌++◌, None, Option, Some, Vec, codes, cond, decimal, is_some, length, map, nat_eq, nat_lt, not, option_map, slice_get, sum}
 use Rattle.std.specs.Ordering.{is_eq}
 use Rattle.std.specs.declared.alloc.Global.{Global}
 use Rattle.compare.specs.Quality.FoundNear.{AreNearOf}
@@ -21,24 +21,20 @@ use Rattle.outputs.specs.declared.check_text.near.NearFound.{NearFound}
 
 -- ---- ids
 
--- the id of a geometry, none where there is no geometry
-abbrev pub id_of : Option Geom → Id
-id_of None = id.None
-id_of (Some g) = g.id
-
--- the id of the geometry of a number
-abbrev pub id_at : List Geom → ℕ → Id
-id_at gs n = id_of (slice_get gs n)
+-- the id of the geometry of a number, if it is there
+abbrev pub id_at : List Geom → ℕ → Option Id
+id_at gs n = option_map (λ g. g.id) (slice_get gs n)
 
 -- the id is the one before
-abbrev pub is_as_before : Option Id → Id → Bool
+abbrev pub is_as_before : Option Id → Option Id → Bool
 is_as_before None i = false
-is_as_before (Some before) i = is_eq (id_cmp before i)
+is_as_before (Some before) None = false
+is_as_before (Some before) (Some i) = is_eq (id_cmp before i)
 
 -- how many ids the features of some numbers have, where those of one id are side by side
-abbrev pub ids_behind : (ℕ → Id) → Option Id → List ℕ → ℕ
+abbrev pub ids_behind : (ℕ → Option Id) → Option Id → List ℕ → ℕ
 ids_behind of before [] = 0
-ids_behind of before (n ∷ ns) = one_if (not (is_as_before before (of n))) + ids_behind of (Some (of n)) ns
+ids_behind of before (n ∷ ns) = one_if (not (is_as_before before (of n))) + ids_behind of (of n) ns
 
 -- the numbers of a layer's features without an id, those of the features whose id occurs more than once in it, and how many such ids there are
 abbrev pub Finding : Type 0
@@ -84,15 +80,15 @@ abbrev pub missing_line : LayerParts → ℕ → List ℕ
 missing_line l n = codes "layer " ++ (spelling_of (spelled_text l.name) ++ (codes ": feature " ++ (decimal n ++ codes " has no id\n")))
 
 -- what is before the number of a feature whose id occurs more than once: a comma behind one of the same id, else the end of the line before, where there is one, and the beginning of its own
-abbrev pub number_front : LayerParts → Option Id → Id → List ℕ
+abbrev pub number_front : LayerParts → Option Id → Option Id → List ℕ
 number_front l before i =
     cond (is_as_before before i) (codes ", ")
-    (cond (is_some before) (codes "\n") [] ++ (codes "layer " ++ (spelling_of (spelled_text l.name) ++ (codes ": id " ++ (id_value_text i ++ codes " more than once: features ")))))
+    (cond (is_some before) (codes "\n") [] ++ (codes "layer " ++ (spelling_of (spelled_text l.name) ++ (codes ": id " ++ (option_text id_value_text i ++ codes " more than once: features ")))))
 
 -- a line for each id that occurs more than once, with the numbers of its features, behind a line of the id before
 abbrev pub repeated_lines : LayerParts → Option Id → List ℕ → List ℕ
 repeated_lines l before [] = cond (is_some before) (codes "\n") []
-repeated_lines l before (n ∷ ns) = (number_front l before (id_at l.geometries n) ++ decimal n) ++ repeated_lines l (Some (id_at l.geometries n)) ns
+repeated_lines l before (n ∷ ns) = (number_front l before (id_at l.geometries n) ++ decimal n) ++ repeated_lines l (id_at l.geometries n) ns
 
 -- the lines of layers
 abbrev pub layer_lines : List LayerParts → List LayerIds → List ℕ

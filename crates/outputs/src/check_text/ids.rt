@@ -21,22 +21,25 @@ pub(crate) struct LayerIds {
     count: usize,
 }
 
-/// The id of a feature.
-fn id_at(geometries: &[Geom], number: usize) -> &Id
-    ensures { result.now ≡ id_at geometries.now number }
+/// The id of a feature, if it is there.
+fn id_at(geometries: &[Geom], number: usize) -> Option<&Id>
+    ensures { option_copied result ≡ id_at geometries.now number }
 {
     match geometries.get(number) {
-        Some(geometry) => &geometry.id,
-        None => &Id::None,
+        Some(geometry) => Some(&geometry.id),
+        None => None,
     }
 }
 
 /// Whether an id is the one before.
-fn is_as_before(before: Option<&Id>, id: &Id) -> bool
-    ensures { result ≡ is_as_before (option_copied before.entry) id.now }
+fn is_as_before(before: Option<&Id>, id: Option<&Id>) -> bool
+    ensures { result ≡ is_as_before (option_copied before.entry) (option_copied id.entry) }
 {
     match before {
-        Some(before) => *before == *id,
+        Some(before) => match id {
+            Some(id) => *before == *id,
+            None => false,
+        },
         None => false,
     }
 }
@@ -51,7 +54,7 @@ fn count_ids(geometries: &[Geom], numbers: &[usize]) -> usize
     while let Some((number, after)) = left.split_first() {
         let id = id_at(geometries, *number);
         count += usize::from(!is_as_before(before, id));
-        before = Some(id);
+        before = id;
         left = after;
     }
     count
@@ -177,7 +180,7 @@ impl<'a> Written for RepeatedLines<'a> {
                 Ok(()) => left = after,
                 Err(fault) => return Err(fault),
             }
-            before = Some(id);
+            before = id;
         }
         If(before.is_some(), "\n").write(sink)
     }

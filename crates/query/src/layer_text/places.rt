@@ -10,7 +10,7 @@ use crate::layer_text::steps::{behind, is_step, least_step};
 use arcs::{ArcRef, ArcStep};
 use geojson_io::writer::Places;
 use grid::{Grid, Pos};
-use sinks::written::{Noted, Written};
+use sinks::written::{Notation, Noted, Written};
 use sinks::{Sink, WriteFault};
 use topo::{Topology, Walk};
 
