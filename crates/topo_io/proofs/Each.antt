@@ -1,10 +1,15 @@
--- Lists that are stitched item by item, and what was stitched so far.
-use Rattle.std.proofs.Common.{◌≡◌, ◌↔◌, List, [], ◌∷◌, ◌++◌, map, refl, sym, ap, ◌∙◌, subst, append_assoc, append-nil}
+-- Lists that are made item by item, and what was made so far.
+use Rattle.std.proofs.Common.{◌≡◌, ◌↔◌, List, [], ◌∷◌, ◌++◌, length, map, refl, sym, ap, ◌∙◌, subst, append_assoc, append-nil, arith}
 use Rattle.std.specs.List.{AllByRecursion}
 use Rattle.std.proofs.lemmas.List.{map-append}
 use Rattle.faults.specs.Fault.{IsWant}
 use Rattle.faults.specs.declared.fault.Fault.{Fault}
-use Rattle.topo_io.specs.Stitching.{NotOrWant}
+use Rattle.topo_io.specs.Parts.{NotOrWant}
+
+-- a list of no items, by its length
+pub none_left : {X : Type 0} (c : List X) → length c ≡ 0 → c ≡ []
+none_left [] e = refl
+none_left (y ∷ c) e = absurd (omega (arith, e))
 
 -- ---- refusals
 

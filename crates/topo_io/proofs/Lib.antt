@@ -1,4 +1,8 @@
 pub mod AllFaults
+pub mod Found
+pub mod Within
+pub mod Objects
+pub mod Values
 pub mod Ascending
 pub mod Comparing
 pub mod Indexes
@@ -30,4 +34,3 @@ pub mod TokenLimits
 pub mod TokenMembers
 pub mod TokenRoots
 pub mod Repeats
-pub mod Rewritten

@@ -9,10 +9,6 @@ use Rattle.reading.specs.Fault.{LeastOrWant, here}
 use Rattle.theory.specs.ArcNumbers.{ArcRef}
 use Rattle.topo_io.specs.Arcs.{along, meets, onto, stitched_onto, stitched_faults}
 
-pub none_left : {X : Type 0} (c : List X) → length c ≡ 0 → c ≡ []
-none_left [] e = refl
-none_left (y ∷ c) e = absurd (omega (arith, e))
-
 pub onto_none : (l : List Pos) → l ≡ onto l []
 onto_none [] = refl
 onto_none (x ∷ l) = refl

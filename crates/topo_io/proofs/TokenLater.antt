@@ -33,6 +33,7 @@ use Rattle.topo_io.specs.TokenBounds.{IsBelow}
 use Rattle.topo_io.specs.TokenLater.{any_index_faults, IsRef, IsCoordinates, AreLists, BodyMeans}
 use Rattle.topo_io.specs.declared.token_reader.lists.PlacedCoordinates.TheVariants.{One, Many}
 use Rattle.topo_io.specs.declared.token_reader.lists.ArcRefLists.TheVariants as of
+use Rattle.topo_io.proofs.Indexes.{ref_of_index}
 use Rattle.topo_io.proofs.TokenLimits.{position_limited}
 
 -- ---- positions and indexes of tokens
@@ -48,13 +49,6 @@ place_reads o depth old new q ox oy r =
       faultless = ap (λ s. step_faults no_limits s r.from) (sym start) ∙ r.faultless;
       meant = position_itself q ∙ ap place_of (sym r.meant) ∙ ap (λ s. place_of (next_sums s r.from)) start;
     }
-
-by_direction : (b : Bool) (n : ℕ) → ref_at (cond b (negsuc n) (pos n)) ≡ record { arc = n; reversed = b }
-by_direction true n = refl
-by_direction false n = refl
-
-ref_of_index : (u : ArcRef) (i : ℤ) → index_of u ≡ i → u ≡ ref_at i
-ref_of_index u i e = sym (ap ref_at (sym e) ∙ by_direction u.reversed u.arc)
 
 pub index_reads : (depth : ℕ) (old new : List Token) (s : List ℕ) (u : ArcRef) (a : ℤ) → old ≡ Token.number s ∷ new → number_of s ≡ Some (of_integer a) → as_i64 (of_integer a) ≡ Some a → index_of u ≡ a → Reads any_index_faults IsRef depth old new u
 index_reads depth old new s u a is written whole e = record {

@@ -13,13 +13,13 @@ use Rattle.reading.proofs.Lists.{zip_is}
 use Rattle.topo.specs.Parts.{LayerParts}
 use Rattle.topo_io.specs.Arcs.{counted, arc_faults, arc_of, arcs_of}
 use Rattle.topo_io.specs.Limits.{limits_on, no_limits}
-use Rattle.topo_io.specs.Parts.{loose_content, loose_transformed, arc_count}
+use Rattle.topo_io.specs.Parts.{loose_content, loose_transformed, arc_count, MeansParts}
 use Rattle.topo_io.specs.Roots.{transform_faults, limits_by, limits_of, objects_faults}
-use Rattle.topo_io.specs.declared.reader.parts.TextParts.{TextParts}
+use Rattle.topo_io.specs.declared.parts.TextParts.{TextParts}
 use Rattle.reading.proofs.TokenPartsLemmas.Members.{member_known, member_kept, apart}
 use Rattle.topo_io.specs.TokenMembers.{no_faults}
 use Rattle.topo_io.specs.TokenLayers.{ObjectsMean, LayerWithin}
-use Rattle.topo_io.specs.TokenRoot.{IsWord, IsGrid, AreArcs, AreLayers, KnowsWord, KnowsGrid, KnowsArcs, KnowsLayers, KnowsRoot, RootMeans}
+use Rattle.topo_io.specs.TokenRoot.{IsWord, IsGrid, AreArcs, AreLayers, KnowsWord, KnowsGrid, KnowsArcs, KnowsLayers, KnowsRoot}
 use Rattle.topo_io.specs.declared.token_reader.bounds.Bounds.{Bounds}
 use Rattle.topo_io.proofs.TokenLater.{list_later}
 use Rattle.topo_io.proofs.TokenLimits.{arc_limited}
@@ -82,7 +82,7 @@ arcs_faultless g d cs none is fit =
     list_later (arc_faults no_limits) (arc_faults (limits_on g)) (λ e c. c ≡ arc_of e) (AllByRecursion (Fits g)) (λ e c n same fits. arc_limited g e n (subst (AllByRecursion (Fits g)) same fits)) d cs.items none is fit
 
 pub root_means : (b : Bool) (p : TextParts) (x : Bounds) (ms : Members) → x.grid ≡ p.grid → x.arcs ≡ length p.arcs.items → AllByRecursion (AllByRecursion (Fits x.grid)) p.arcs.items → AllByRecursion (LayerWithin x) p.layers.items
-    → KnowsRoot (Some b) (Some p.grid) (Some p.arcs) (Some p.layers) ms → RootMeans (object ms) p
+    → KnowsRoot (Some b) (Some p.grid) (Some p.arcs) (Some p.layers) ms → MeansParts (object ms) p
 root_means b p x ms is_grid is_count fit within h =
     let (c, typed, none_c, word) = h.0 in
     let (t, at_t, none_t, is_t) = h.1 in

@@ -9,7 +9,8 @@ use Rattle.theory.specs.Topology.{Body, null, point, points, line, lines, polygo
 use Rattle.faults.specs.Path.{name}
 use Rattle.faults.specs.Fault.{Pair}
 use Rattle.faults.specs.declared.fault.FaultKind.{FaultKind}
-use Rattle.faults.specs.declared.fault.FaultKind.TheVariants.{NoTransform}
+use Rattle.faults.specs.declared.fault.Fault.{Fault}
+use Rattle.faults.specs.declared.fault.FaultKind.TheVariants.{NoTransform, OutOfMemory}
 use Rattle.grid.specs.Place.{Transform}
 use Rattle.grid.specs.declared.pos.Pos.{Pos}
 use Rattle.shapes.specs.Ids.{IsI64}
@@ -28,7 +29,8 @@ use Rattle.topo.specs.declared.geom.Geom.{Geom}
 use Rattle.topo_io.specs.Limits.{position_of}
 use Rattle.topo_io.specs.Arcs.{Arcs, counted, arc_faults, arcs_of}
 use Rattle.topo_io.specs.Geometries.{body_name, geometry_type, type_or_none, layer_type}
-use Rattle.topo_io.specs.Roots.{topology_named, limits_of, transform_faults, objects_faults, grid_of_text}
+use Rattle.topo_io.specs.Roots.{topology_named, limits_of, transform_faults, objects_faults, grid_of, grid_of_text}
+use Rattle.topo_io.specs.declared.parts.TextParts.{TextParts}
 use Rattle.topo_io.specs.declared.reader.position.Limits.{Limits}
 use Rattle.topo_io.specs.declared.reader.layer_type.LayerType.{LayerType}
 use Rattle.topo_io.specs.declared.reader.layer_type.LayerType.TheVariants.{Collection, Geometry}
@@ -118,6 +120,12 @@ geoms_of d = geoms_if_object (as_object (member_or_null (codes "objects") d))
 abbrev pub layer_of_geoms : LayerParts → List ℕ × List PlainGeom
 layer_of_geoms l = (spelled_text l.name, map plain_geom l.geometries)
 
+-- the layers are those of the value of `objects`
+pub record AreLayersOf (d : Data) (ls : List LayerParts) : Type 0 where
+  pub layers : map layer_of_geoms ls ≡ geoms_if_object (as_object d)
+  pub ids : AllByRecursion LayerStored (geoms_if_object (as_object d))
+  pub names : Distinct (map (λ l. spelled_text l.name) ls)
+
 -- ---- faults without those of stitched lists
 
 -- the number of arcs
@@ -144,6 +152,16 @@ pub record ArePartsOf (d : Data) (cs : List (List Pos)) (ls : List LayerParts) :
   pub layers : map layer_of_geoms ls ≡ geoms_of d
   pub ids : AllByRecursion LayerStored (geoms_of d)
   pub names : Distinct (map (λ l. spelled_text l.name) ls)
+
+-- only the value's stitched lists can have faults, and these are its parts
+pub record MeansParts (d : Data) (p : TextParts) : Type 0 where
+  pub loose : loose_topology d ≡ []
+  pub grid : p.grid ≡ grid_of d
+  pub parts : ArePartsOf d p.arcs.items p.layers.items
+
+-- it does not hold, or memory was refused
+pub record NotOrWant (A : Type 0) (f : Fault) : Type 0 where
+  pub not : (f.kind ≡ OutOfMemory → ⊥) → A → ⊥
 
 -- ---- the text
 

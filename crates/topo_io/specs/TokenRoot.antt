@@ -9,9 +9,7 @@ use Rattle.reading.specs.Parts.{list_faults, elements}
 use Rattle.topo.specs.Parts.{LayerParts}
 use Rattle.topo_io.specs.Arcs.{arc_faults, arc_of}
 use Rattle.topo_io.specs.Limits.{no_limits}
-use Rattle.topo_io.specs.Parts.{loose_topology, ArePartsOf}
-use Rattle.topo_io.specs.Roots.{transform_faults, transform_of, grid_of}
-use Rattle.topo_io.specs.declared.reader.parts.TextParts.{TextParts}
+use Rattle.topo_io.specs.Roots.{transform_faults, transform_of}
 use Rattle.reading.specs.TokenParts.Members.{KnowsMember}
 use Rattle.topo_io.specs.TokenMembers.{no_faults}
 use Rattle.topo_io.specs.TokenLayers.{ObjectsMean}
@@ -43,9 +41,3 @@ KnowsLayers = KnowsMember (codes "objects") no_faults AreLayers
 -- the members of a topology that are read: type, transform, arcs and objects
 abbrev pub KnowsRoot : Option Bool → Option Transform → Option (Vec (List Pos) Global) → Option (Vec LayerParts Global) → Members → Type 0
 KnowsRoot b g cs ls ms = KnowsWord b ms × KnowsGrid g ms × KnowsArcs cs ms × KnowsLayers ls ms
-
--- only the value's stitched lists can have faults, and these are its parts
-pub record RootMeans (d : Data) (p : TextParts) : Type 0 where
-  pub loose : loose_topology d ≡ []
-  pub grid : p.grid ≡ grid_of d
-  pub parts : ArePartsOf d p.arcs.items p.layers.items

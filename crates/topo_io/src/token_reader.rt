@@ -15,7 +15,7 @@ pub mod root;
 pub mod transform;
 pub mod within;
 
-use crate::reader::parts::TextParts;
+use crate::parts::TextParts;
 use crate::token_reader::root::TopologyRoot;
 use reading::token_parts::text::read_text;
 use reading::tokens::from_tokens::Stop;

@@ -1,10 +1,11 @@
 //! Topologies, whose members come in any order.
 ghost use Rattle.topo_io.specs.TokenMembers.{no_faults};
-ghost use Rattle.topo_io.specs.TokenRoot.{KnowsRoot, RootMeans};
+ghost use Rattle.topo_io.specs.Parts.{MeansParts};
+ghost use Rattle.topo_io.specs.TokenRoot.{KnowsRoot};
 ghost use Rattle.serde_json.specs.Data.{Members, object};
 ghost use Rattle.std.specs.Prelude.{Bool, Some, IfOk};
 
-use crate::reader::parts::TextParts;
+use crate::parts::TextParts;
 use crate::token_reader::arc::Arc;
 use crate::token_reader::bounds::Bounds;
 use crate::token_reader::objects::read_objects;
@@ -74,7 +75,7 @@ fn parts_within_bounds(
     arcs: Vec<Items<Pos>>,
     layers: Vec<Layer>,
 ) -> Result<TextParts, Stop>
-    ensures { IfOk result (λ p. (kind : Bool) (ms : Members) → KnowsRoot (Some kind) (Some grid) (Some arcs) (Some layers) ms → RootMeans (object ms) p) }
+    ensures { IfOk result (λ p. (kind : Bool) (ms : Members) → KnowsRoot (Some kind) (Some grid) (Some arcs) (Some layers) ms → MeansParts (object ms) p) }
 {
     let Some(bounds) = Bounds::new(grid, arcs.len()) else {
         return Err(Stop::Unread);
@@ -89,7 +90,7 @@ fn parts_within_bounds(
 }
 
 fn parts_of(members: TopologyMembers) -> Result<TextParts, Stop>
-    ensures { IfOk result (λ p. (ms : Members) → KnowsRoot members.kind members.grid members.arcs members.layers ms → RootMeans (object ms) p) }
+    ensures { IfOk result (λ p. (ms : Members) → KnowsRoot members.kind members.grid members.arcs members.layers ms → MeansParts (object ms) p) }
 {
     let TopologyMembers {
         kind,
@@ -121,7 +122,7 @@ impl FromTokens for TopologyRoot {
 
     ghost faults = { λ p. no_faults };
 
-    ghost means = { λ p. RootMeans };
+    ghost means = { λ p. MeansParts };
 
     fn read<'a>(
         &self,

@@ -5,7 +5,8 @@ ghost use Rattle.std.specs.Prelude.{IfOk};
 ghost use Rattle.topo_io.specs.Geometries.{body_faults, shape_faults, typed_faults_of, geometry_faults};
 ghost use Rattle.topo_io.specs.Named.{named};
 
-use crate::reader::geometry::{body_name, geometry_type};
+use crate::reader::body::body_name;
+use crate::reader::geometry::geometry_type;
 use crate::reader::position::DeltaPosition;
 use crate::validity::list::{Known, ListIn, OutlineType};
 use faults::OutOfMemory;

@@ -11,7 +11,8 @@ ghost use Rattle.topo_io.specs.Named.{named};
 ghost use Rattle.topo_io.specs.Validity.{fault_of, faults_as, used_faults};
 
 use crate::reader::position::Limits;
-use crate::reader::stitching::{IndexOf, stitched_to};
+use crate::reader::index::IndexOf;
+use crate::stitching::stitched_to;
 use crate::validity::index::{IndexIn, Named};
 use chains::ArcRef;
 use faults::OutOfMemory;
@@ -182,7 +183,8 @@ fn judge_used(
 ) -> Result<Vec<Fault>, OutOfMemory>
     ensures { IfOk result (λ fs. AtMostOne (stitched_list_faults (known lists.now.arcs.now) (faults_as kind) (view value.now)) (pairs_of fs.items)) }
 {
-    match read_list(alloc, &IndexOf { arcs: lists.arcs }, value) {
+    let count = lists.arcs.len();
+    match read_list(alloc, &IndexOf { count }, value) {
         Ok(used) => Ok(judge_outline(alloc, lists, kind, &used)?),
         Err(_) => Err(OutOfMemory),
     }

@@ -4,7 +4,7 @@ use Rattle.reading.specs.FaultLists.Found.{is_full, pairs_of}
 use Rattle.topo_io.specs.Arcs.{steps_faults}
 use Rattle.topo_io.specs.Limits.{next_sums, step_faults}
 use Rattle.topo_io.specs.Sums.{sums_of}
-use Rattle.topo_io.proofs.AllFaults.{scan_next}
+use Rattle.topo_io.proofs.Found.{scan_next}
 use Rattle.topo_io.proofs.validity.arc.judge_steps.Goals as goal
 
 pub loop-i-preserved : goal.loop-i-preserved

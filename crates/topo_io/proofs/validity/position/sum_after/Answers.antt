@@ -3,7 +3,7 @@ use Rattle.std.specs.Int.{w128}
 use Rattle.std.proofs.lemmas.Int.{ints, to_z-of_z, fits_signed_from_abs}
 use Rattle.serde_json.specs.View.{view}
 use Rattle.topo_io.specs.Sums.{HasRoom}
-use Rattle.topo_io.proofs.AllFaults.{sum_moved, sum_lost}
+use Rattle.topo_io.proofs.Found.{sum_moved, sum_lost}
 use Rattle.topo_io.proofs.validity.position.sum_after.Goals as goal
 
 pub returns-in-Ok-clause-sum : goal.returns-in-Ok-clause-sum

@@ -4,7 +4,7 @@ use Rattle.reading.specs.FaultLists.Found.{AreFound, is_full, pairs_of}
 use Rattle.reading.specs.Parts.{member_faults}
 use Rattle.reading.proofs.FaultListsLemmas.Kept.{found_more}
 use Rattle.topo_io.specs.Roots.{scale_faults, translate_faults, transform_members}
-use Rattle.topo_io.proofs.AllFaults.{pairs_join}
+use Rattle.topo_io.proofs.Found.{pairs_join}
 use Rattle.topo_io.proofs.validity.transform.judge_members.Goals as goal
 
 pub returns : goal.returns

@@ -2,7 +2,7 @@ use Rattle.std.proofs.Common.{IsTrue, rules, subst, sym, ◌∙◌}
 use Rattle.std.specs.List.{AllByRecursion}
 use Rattle.grid.specs.Fits.{Fits}
 use Rattle.topo_io.specs.TokenBounds.{IsBelow}
-use Rattle.topo_io.proofs.BodyLists.{parts_within}
+use Rattle.topo_io.proofs.Within.{parts_within}
 use Rattle.topo_io.proofs.token_reader.within.BodyBounded.is_within.Goals as goal
 
 pub loop-used-init : goal.loop-used-init

@@ -5,7 +5,7 @@ use Rattle.reading.specs.FaultLists.Found.{AreFound, pairs_of}
 use Rattle.reading.specs.Parts.{array_faults, elements}
 use Rattle.reading.proofs.FaultListsLemmas.Wholes.{array_found}
 use Rattle.topo_io.specs.Arcs.{steps_faults, short_faults}
-use Rattle.topo_io.proofs.AllFaults.{elements_count, empty_none, empty_some, short_found, short_none, unless_none, unless_some}
+use Rattle.topo_io.proofs.Found.{elements_count, empty_none, empty_some, short_found, short_none, unless_none, unless_some}
 use Rattle.topo_io.proofs.validity.arc.ArcInJudge.judge.Goals as goal
 
 pub returns-then-not-is_empty : goal.returns-then-not-is_empty
