@@ -1,41 +1,33 @@
 -- Faults that were found of a topology, from those that were found of its arcs, objects and transform.
-use Rattle.std.proofs.Common.{◌≡◌, nat_lt, if◌then◌else◌, ℕ, zero, suc, ℤ, pos, ◌+ℤ◌, ◌+◌, ◌<◌, ◌≤◌, length, get_or, drop, List, [], ◌∷◌, ◌++◌, map, Option, Some, None, true, false, codes, refl, sym, ap, ◌∙◌, subst, arith}
-use Rattle.std.specs.Prelude.{◌==◌, option_and_then, option_map, unwrap_or}
-use Rattle.std.specs.Cmp.{unsigned_Decides}
-use Rattle.std.proofs.lemmas.Bool.Decides.{nat_tests}
+use Rattle.std.proofs.Common.{◌≡◌, ℕ, zero, suc, ◌+◌, length, List, [], ◌∷◌, ◌++◌, map, Option, Some, None, true, false, codes, refl, sym, ap, ◌∙◌, subst, arith}
 use Rattle.std.specs.List.{Contains}
-use Rattle.std.proofs.lemmas.List.{drop_more, length-map}
-use Rattle.serde_json.specs.Data.{Data, Num}
-use Rattle.serde_json.specs.Find.{get, as_array, as_i64, as_number}
+use Rattle.serde_json.specs.Data.{Data}
+use Rattle.serde_json.specs.Find.{get, as_array}
 use Rattle.serde_json.specs.View.{view, items_of}
 use Rattle.serde_json.specs.declared.value.Value.{Value}
 use Rattle.faults.specs.Path.{name, index}
 use Rattle.faults.specs.Fault.{Pair, pair_of}
 use Rattle.faults.specs.declared.fault.Fault.{Fault}
 use Rattle.faults.specs.declared.fault.FaultKind.{FaultKind}
-use Rattle.faults.specs.declared.fault.FaultKind.TheVariants.{Broken, NoTransform, OutOfMemory, TooShort}
+use Rattle.faults.specs.declared.fault.FaultKind.TheVariants.{Broken, NoTransform, OutOfMemory}
 use Rattle.grid.specs.declared.pos.Pos.{Pos}
 use Rattle.reading.specs.Fault.{here, under, unless_faulty, IsLeast, LeastOrWant}
 use Rattle.reading.specs.FaultLists.Ascending.{IsAscending}
-use Rattle.reading.specs.FaultLists.Found.{kept, is_full, AreFound, AtMostOne, pairs_of}
-use Rattle.reading.specs.Numbers.{element_faults, number_faults, whole_faults, whole_of}
+use Rattle.reading.specs.FaultLists.Found.{is_full, AreFound, AtMostOne, pairs_of}
 use Rattle.reading.specs.Parts.{list_faults, there, elements, member_faults}
-use Rattle.reading.specs.Scan.{scan_faults}
 use Rattle.reading.specs.Text.{document, text_faults}
 use Rattle.reading.specs.declared.fault_lists.found.Wanted.{Wanted}
-use Rattle.reading.specs.declared.fault_lists.found.Wanted.TheVariants.{First, All}
+use Rattle.reading.specs.declared.fault_lists.found.Wanted.TheVariants.{First}
 use Rattle.reading.proofs.FaultListsLemmas.Ascending.{first_told}
-use Rattle.reading.proofs.FaultListsLemmas.Kept.{FoundSoFar, so_far_next, found_none, found_same, found_under, found_more, found_enough, none_found, one_none, one_under}
+use Rattle.reading.proofs.FaultListsLemmas.Kept.{found_same, found_under, found_more, found_enough, one_none, one_under}
 use Rattle.reading.proofs.FaultListsLemmas.Wholes.{no_document, outline_told}
-use Rattle.reading.proofs.Lists.{elements_are}
-use Rattle.topo_io.specs.Limits.{moved}
 use Rattle.theory.specs.ArcNumbers.{ArcRef}
-use Rattle.topo_io.specs.Arcs.{Arcs, counted, known, along, arc_faults, index_faults, short_faults, stitched, stitched_faults, stitched_list_faults, used_arcs}
-use Rattle.topo_io.specs.Roots.{arcs_by, arcs_if_array, arcs_if_there, arcs_in, limits_of, content_faults, objects_faults, faults_of_text, topology_faults, transform_faults, transformed_faults}
+use Rattle.topo_text.specs.Arcs.{Arcs, counted, known, along, arc_faults, index_faults, stitched, stitched_faults, stitched_list_faults, used_arcs}
+use Rattle.topo_text.specs.Roots.{arcs_by, arcs_if_array, arcs_if_there, arcs_in, limits_of, content_faults, objects_faults, faults_of_text, topology_faults, transform_faults, transformed_faults}
 use Rattle.topo_io.specs.Validity.{fault_of, faults_as, used_faults}
-use Rattle.topo_io.specs.declared.reader.position.Limits.{Limits}
+use Rattle.topo_text.specs.declared.reader.position.Limits.{Limits}
 use Rattle.topo_io.specs.declared.validity.list.OutlineType.{OutlineType}
-use Rattle.topo_io.proofs.Found.{pairs_join, no_faults, elements_count}
+use Rattle.topo_text.proofs.Found.{pairs_join, no_faults, elements_count}
 
 -- ---- arcs that are counted
 

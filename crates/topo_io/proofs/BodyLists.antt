@@ -1,14 +1,13 @@
 -- The lists of a body stitch where its lines do, and its rings.
-use Rattle.std.proofs.Common.{◌↔◌, List, [], ◌∷◌, ◌++◌}
+use Rattle.std.proofs.Common.{◌↔◌, List}
 use Rattle.std.specs.List.{AllByRecursion}
 use Rattle.grid.specs.declared.pos.Pos.{Pos}
-use Rattle.shapes.specs.Forms.{lines_in, parts_in, points_in, rings_in}
+use Rattle.shapes.specs.Forms.{lines_in, rings_in}
 use Rattle.shapes.specs.declared.form.Form.TheVariants.{Null, Point, MultiPoint, Line, MultiLine, Polygon, MultiPolygon}
-use Rattle.theory.specs.Lists.{joined}
 use Rattle.topo.specs.Bodies.{Body}
 use Rattle.topo.specs.OfMap.{body_of}
 use Rattle.topo_io.specs.Stitching.{BodyStitches, StitchToLine, StitchToRing}
-use Rattle.topo_io.proofs.Within.{all_joined}
+use Rattle.topo_text.proofs.Within.{all_joined}
 
 -- a body stitches where its lines do, and its rings
 pub lists_stitch : (arcs : List (List Pos)) (b : Body) →

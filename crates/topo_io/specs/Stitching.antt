@@ -6,8 +6,8 @@ use Rattle.theory.specs.ArcNumbers.{ArcRef}
 use Rattle.theory.specs.Topology.{Body, null, point, points, line, lines, polygon, polygons}
 use Rattle.reading.specs.Outlines.{line_faults, ring_faults, line_of, ring_of}
 use Rattle.reading.specs.Plain.{Plain, PlainForm}
-use Rattle.topo_io.specs.Arcs.{along, stitched, stitched_faults, list_or_none}
-use Rattle.topo_io.specs.Parts.{PlainGeom}
+use Rattle.topo_text.specs.Arcs.{along, stitched, stitched_faults, list_or_none}
+use Rattle.topo_text.specs.Parts.{PlainGeom}
 
 -- the used arcs stitch to a list that is a line
 abbrev pub StitchToLine : List (List Pos) → List ArcRef → Type 0

@@ -13,8 +13,8 @@ ghost use Rattle.std.specs.Prelude.{◌≡◌, ◌≢◌, [], ℕ, List, map as 
 ghost use Rattle.topo.specs.OfMap.{body_of};
 ghost use Rattle.topo_io.specs.Layers.{plain_layer, layer_read, with_layers};
 ghost use Rattle.topo_io.specs.Means.{Means};
-ghost use Rattle.topo_io.specs.Parts.{plain_geom, layer_of_geoms, AreSaid, NotOrWant};
-ghost use Rattle.topo_io.specs.Roots.{faults_of_text};
+ghost use Rattle.topo_text.specs.Parts.{plain_geom, layer_of_geoms, AreSaid, NotOrWant};
+ghost use Rattle.topo_text.specs.Roots.{faults_of_text};
 ghost use Rattle.topo_io.specs.Stitching.{StitchToLine, StitchToRing, BodyStitches, GeomStitches, LayerStitches, line_along, ring_along, form_along, feature_along, layer_along};
 
 use crate::stitching::stitched_to;

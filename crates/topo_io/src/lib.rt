@@ -4,19 +4,15 @@
 mod features;
 pub mod laws;
 mod other_forms;
-pub mod parts;
-pub mod reader;
 pub mod same;
 mod stitching;
-mod token_reader;
 pub mod topology;
 mod validity;
 pub mod writer;
 
 pub use features::map_of_parts;
-pub use parts::TextParts;
 pub use same::{is_canonical, is_text_of};
-pub use token_reader::read_parts;
+pub use topo_text::{TextParts, read_parts};
 pub use topology::{read, read_parts_as_value, read_topology};
 pub use validity::faults;
 pub use writer::{text_of, write};

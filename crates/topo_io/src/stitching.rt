@@ -6,7 +6,7 @@ ghost use Rattle.lines.specs.Pairs.{position_eq};
 ghost use Rattle.reading.specs.Fault.{LeastOrWant, here};
 ghost use Rattle.reading.specs.Outlines.{outline_faults};
 ghost use Rattle.std.specs.Prelude.{◌≡◌, ◌≢◌, [], ◌∷◌, ◌++◌, List, map, reverse, length, true, false, Some, None, IfOk, IfErr, OnOk};
-ghost use Rattle.topo_io.specs.Arcs.{along, meets, onto, stitched, stitched_faults, list_or_none};
+ghost use Rattle.topo_text.specs.Arcs.{along, meets, onto, stitched, stitched_faults, list_or_none};
 
 use chains::ArcRef;
 use faults::fault::{Fault, FaultKind};

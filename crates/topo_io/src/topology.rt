@@ -5,14 +5,11 @@ ghost use Rattle.shapes.specs.Fitting.{MapFits};
 ghost use Rattle.std.specs.Prelude.{◌≡◌, ◌≢◌, ◌<◌, ◌^◌, [], length, IfOk, IfErr, IfSome, IfNone, OnOk};
 ghost use Rattle.validate.specs.Accept.Laws.{HaveI64};
 ghost use Rattle.topo_io.specs.Means.{Means, MeansTopology, IsTopologyOfParts, AreFaultyParts};
-ghost use Rattle.topo_io.specs.Parts.{AreSaid};
-ghost use Rattle.topo_io.specs.Roots.{faults_of_text, grid_of_text};
+ghost use Rattle.topo_text.specs.Parts.{AreSaid};
+ghost use Rattle.topo_text.specs.Roots.{faults_of_text, grid_of_text};
 
-use crate::other_forms::topology_of_stitched;
 use crate::features::map_of_parts;
-use crate::parts::TextParts;
-use crate::reader::parts_of_value;
-use crate::token_reader::read_parts;
+use crate::other_forms::topology_of_stitched;
 use crate::validity::parts::layers_stitch;
 use crate::validity::{judge_root, judge_text};
 use faults::OutOfMemory;
@@ -23,6 +20,7 @@ use reading::tokens::from_tokens::Stop;
 use shapes::feature_map::FeatureMap;
 use std::alloc::Global;
 use topo::{Layer, Topology};
+use topo_text::{TextParts, parts_of_value, read_parts};
 use validate::accept::{Accepted, TextArcs, take};
 
 // A list that doesn't stitch is a fault, but not where it stands: the text is read once more, and its

@@ -114,7 +114,7 @@ pub(crate) fn test(rt: &HostRuntime, tally: &mut Tally, worked: &Worked) {
     calls!(tally.ask(rt, worked.row.title, worked);
         "geojson_io::read" => read_geojson,
         "topo_io::read" => read_topology,
-        "topo_io::read_parts" => read_parts,
+        "topo_text::read_parts" => read_parts,
         "topo_io::read_parts_as_value" => read_parts_as_value,
         "topo_io::is_canonical" => is_canonical,
         "Topology::build" => build,

@@ -6,12 +6,10 @@ ghost use Rattle.reading.specs.Outlines.{outline_kind};
 ghost use Rattle.reading.specs.Parts.{list_faults};
 ghost use Rattle.serde_json.specs.View.{view};
 ghost use Rattle.std.specs.Prelude.{◌≡◌, [], IfOk, IfErr, OnOk};
-ghost use Rattle.topo_io.specs.Arcs.{index_faults, known, stitched_list_faults};
+ghost use Rattle.topo_text.specs.Arcs.{index_faults, known, stitched_list_faults};
 ghost use Rattle.topo_io.specs.Named.{named};
 ghost use Rattle.topo_io.specs.Validity.{fault_of, faults_as, used_faults};
 
-use crate::reader::position::Limits;
-use crate::reader::index::IndexOf;
 use crate::stitching::stitched_to;
 use crate::validity::index::{IndexIn, Named};
 use chains::ArcRef;
@@ -26,6 +24,8 @@ use reading::fault_lists::judge::{Judge, judge_list as judge_indexes};
 use reading::part::read_list;
 use serde_json::Value;
 use std::alloc::Global;
+use topo_text::reader::index::IndexOf;
+use topo_text::reader::position::Limits;
 
 /// What a list of arcs is to stitch to.
 #[derive(Clone, Copy, PartialEq, Eq, Debug)]

@@ -1,7 +1,7 @@
 use Rattle.std.proofs.Common.{sym, ◌∙◌, rules}
 use Rattle.std.specs.List.{AllByRecursion}
-use Rattle.topo_io.specs.Parts.{NotOrWant}
-use Rattle.topo_io.proofs.Each.{one_holds, one_refused, one_made, all_hold, all_made, none_left}
+use Rattle.topo_text.specs.Parts.{NotOrWant}
+use Rattle.topo_text.proofs.Each.{one_holds, one_refused, one_made, all_hold, all_made, none_left}
 use Rattle.topo_io.proofs.features.each_stitched.Goals as goal
 
 pub returns-in_err-stitched-clause-err : goal.returns-in_err-stitched-clause-err

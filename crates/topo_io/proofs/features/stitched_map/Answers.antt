@@ -1,9 +1,9 @@
 use Rattle.std.proofs.Common.{◌∙◌, map, subst, rules}
 use Rattle.std.specs.List.{AllByRecursion}
 use Rattle.reading.proofs.Results.{ok_map, err_map}
-use Rattle.topo_io.specs.Parts.{layer_of_geoms, NotOrWant}
+use Rattle.topo_text.specs.Parts.{layer_of_geoms, NotOrWant}
 use Rattle.topo_io.specs.Stitching.{LayerStitches, layer_along}
-use Rattle.topo_io.proofs.Each.{all_mapped, each_mapped, refused_want}
+use Rattle.topo_text.proofs.Each.{all_mapped, each_mapped, refused_want}
 use Rattle.topo_io.proofs.Features.{said_stitched}
 use Rattle.topo_io.proofs.features.stitched_map.Goals as goal
 

@@ -1,6 +1,6 @@
 use Rattle.std.proofs.Common.{◌≡◌, None, slice_get, ap, sym, ◌∙◌}
 use Rattle.theory.specs.ArcNumbers.{ArcRef}
-use Rattle.topo_io.specs.Arcs.{meets, onto}
+use Rattle.topo_text.specs.Arcs.{meets, onto}
 use Rattle.topo_io.proofs.Stitching.{along_none, onto_none}
 use Rattle.topo_io.proofs.stitching.append_used.Goals as goal
 

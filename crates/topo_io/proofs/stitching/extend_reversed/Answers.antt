@@ -1,5 +1,5 @@
 use Rattle.std.proofs.Common.{[], ◌∷◌, ◌++◌, reverse, sym, ap, ◌∙◌, append_assoc, append-nil}
-use Rattle.topo_io.proofs.Each.{none_left}
+use Rattle.topo_text.proofs.Each.{none_left}
 use Rattle.topo_io.proofs.Stitching.{reverse_last}
 use Rattle.topo_io.proofs.stitching.extend_reversed.Goals as goal
 

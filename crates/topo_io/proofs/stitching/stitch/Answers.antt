@@ -2,7 +2,7 @@ use Rattle.std.proofs.Common.{◌+◌, List, map, drop, ap, sym, ◌∙◌, subs
 use Rattle.faults.specs.Fault.{Pair}
 use Rattle.grid.specs.declared.pos.Pos.{Pos}
 use Rattle.reading.specs.Fault.{LeastOrWant}
-use Rattle.topo_io.specs.Arcs.{along, stitched, stitched_faults, stitched_onto}
+use Rattle.topo_text.specs.Arcs.{along, stitched, stitched_faults, stitched_onto}
 use Rattle.topo_io.proofs.Stitching.{broken_at, used_more}
 use Rattle.topo_io.proofs.stitching.stitch.Goals as goal
 

@@ -1,5 +1,5 @@
 use Rattle.std.proofs.Common.{◌≡◌, map, drop}
-use Rattle.topo_io.specs.Arcs.{along, stitched, stitched_onto}
+use Rattle.topo_text.specs.Arcs.{along, stitched, stitched_onto}
 use Rattle.topo_io.proofs.stitching.stitch.Given as goal
 
 abbrev pub invariant-loop-arc : goal.invariant-loop-arc

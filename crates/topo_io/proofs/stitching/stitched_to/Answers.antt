@@ -4,7 +4,7 @@ use Rattle.grid.specs.declared.pos.Pos.{Pos}
 use Rattle.reading.specs.Fault.{LeastOrWant}
 use Rattle.reading.specs.Outlines.{outline_faults}
 use Rattle.reading.proofs.Results.{ok_map, on_ok_map, err_map}
-use Rattle.topo_io.specs.Arcs.{stitched_faults, list_or_none}
+use Rattle.topo_text.specs.Arcs.{stitched_faults, list_or_none}
 use Rattle.topo_io.proofs.stitching.stitched_to.Goals as goal
 
 pub returns-clause-ok : goal.returns-clause-ok

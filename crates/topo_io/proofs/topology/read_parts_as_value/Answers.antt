@@ -1,5 +1,5 @@
 use Rattle.serde_json.specs.View.{view}
-use Rattle.topo_io.proofs.Said.{text_said}
+use Rattle.topo_text.proofs.Said.{text_said}
 use Rattle.topo_io.proofs.topology.read_parts_as_value.Goals as goal
 
 pub returns-in-Ok-clause-said : goal.returns-in-Ok-clause-said

@@ -1,9 +1,9 @@
 use Rattle.std.proofs.Common.{◌≡◌, map, ap, ◌∙◌, subst, rules}
 use Rattle.std.specs.List.{AllByRecursion}
 use Rattle.reading.specs.Plain.{plain}
-use Rattle.topo_io.specs.Parts.{plain_geom, layer_of_geoms, NotOrWant}
+use Rattle.topo_text.specs.Parts.{plain_geom, layer_of_geoms, NotOrWant}
 use Rattle.topo_io.specs.Stitching.{GeomStitches, LayerStitches, feature_along}
-use Rattle.topo_io.proofs.Each.{all_mapped, each_mapped}
+use Rattle.topo_text.proofs.Each.{all_mapped, each_mapped}
 use Rattle.topo_io.proofs.features.NamedFeaturesStitchFrom.stitch_from.Goals as goal
 
 pub returns-in_err-features-clause-err : goal.returns-in_err-features-clause-err

@@ -4,8 +4,8 @@ use Rattle.reading.specs.FaultLists.Found.{pairs_of}
 use Rattle.reading.specs.Numbers.{whole_of}
 use Rattle.reading.specs.Parts.{elements, list_faults}
 use Rattle.reading.proofs.Lists.{zip_is}
-use Rattle.topo_io.specs.Arcs.{along, counted, index_faults}
-use Rattle.topo_io.specs.Parts.{ref_at}
+use Rattle.topo_text.specs.Arcs.{along, counted, index_faults}
+use Rattle.topo_text.specs.Parts.{ref_at}
 use Rattle.topo_io.proofs.AllFaults.{stitching_only}
 use Rattle.topo_io.proofs.Known.{used_same}
 use Rattle.topo_io.proofs.validity.list.judge_used.Goals as goal
