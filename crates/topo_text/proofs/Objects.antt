@@ -1,7 +1,7 @@
 -- The layers of an object, of their names and geometries.
-use Rattle.std.proofs.Common.{◌≡◌, ℕ, List, [], ◌∷◌, Global, String, Vec, map, string_bytes, refl, sym, ap, ◌∙◌, subst}
+use Rattle.std.proofs.Common.{◌≡◌, ℕ, List, [], ◌∷◌, Some, Global, String, Vec, map, string_bytes, refl, sym, ap, ◌∙◌, subst}
 use Rattle.std.specs.List.{AllByRecursion}
-use Rattle.serde_json.specs.Data.{Data, Members, no_members, member, object}
+use Rattle.serde_json.specs.Data.{Data, Members, no_members, member}
 use Rattle.theory.specs.Lists.{Distinct}
 use Rattle.shapes.specs.Parts.{spelled_text}
 use Rattle.reading.specs.Parts.{MeanMembers}
@@ -20,6 +20,9 @@ named_of l = (spelled_text l.name, l.geometries)
 
 abbrev plain_of : List ℕ × List Geom → List ℕ × List PlainGeom
 plain_of p = (p.0, map plain_geom p.1)
+
+abbrev name_in : List ℕ × List Geom → List ℕ
+name_in p = p.0
 
 abbrev GeomsMean : Data → Vec Geom Global → Type 0
 GeomsMean d gs = (map plain_geom gs.items ≡ layer_geoms d) × AllByRecursion GeomStored (layer_geoms d)
@@ -40,9 +43,9 @@ members_stored (member k d ms) [] h = absurd h
 members_stored (member k d ms) (m ∷ named) h = (h.0.1.1, members_stored ms named h.1)
 
 -- layers of the names and geometries that members mean
-pub layers_mean : (ms : Members) (named : List (String Global × Vec Geom Global)) (ls : List LayerParts) → MeanMembers GeomsMean ms (map member_read named) → Distinct (map (λ m. string_bytes m.0) named) → map named_of ls ≡ map named_read named → AreLayersOf (object ms) ls
+pub layers_mean : (ms : Members) (named : List (String Global × Vec Geom Global)) (ls : List LayerParts) → MeanMembers GeomsMean ms (map member_read named) → Distinct (map (λ m. string_bytes m.0) named) → map named_of ls ≡ map named_read named → AreLayersOf (Some ms) ls
 layers_mean ms named ls mean distinct same = record {
   layers = each_mapped plain_of named_of ls ∙ ap (map plain_of) same ∙ members_geoms ms named mean;
   ids = members_stored ms named mean;
-  names = subst Distinct (each_mapped (λ p. p.0) named_read named ∙ sym (ap (map (λ p. p.0)) same) ∙ sym (each_mapped (λ p. p.0) named_of ls)) distinct;
+  names = subst Distinct (each_mapped name_in named_read named ∙ sym (ap (map name_in) same) ∙ sym (each_mapped name_in named_of ls)) distinct;
 }

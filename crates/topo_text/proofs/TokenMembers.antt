@@ -29,7 +29,7 @@ use Rattle.reading.specs.TokenParts.Members.{KnowsId, KnowsProps}
 use Rattle.reading.proofs.TokenPartsLemmas.Members.{member_known, member_kept, member_faultless, apart, id_means, id_bits}
 use Rattle.topo_text.specs.TokenBounds.{BodyWithin}
 use Rattle.topo_text.specs.TokenLater.{IsCoordinates, AreLists}
-use Rattle.topo_text.specs.TokenMembers.{no_faults, IsType, IsIfKept, KnowsIfKept, KnowsType, KnowsCoordinates, KnowsLists, KnowsGeom, ShapeMeans, GeomMeans, GeometryMeans, LayerMeans}
+use Rattle.topo_text.specs.TokenMembers.{no_faults, IsType, IsIfKept, KnowsIfKept, KnowsType, KnowsCoordinates, KnowsLists, KnowsContent, KnowsGeom, ShapeMeans, GeomMeans, GeometryMeans, LayerMeans}
 use Rattle.topo_text.specs.declared.token_reader.lists.PlacedCoordinates.{PlacedCoordinates}
 use Rattle.topo_text.specs.declared.token_reader.lists.ArcRefLists.{ArcRefLists}
 use Rattle.topo_text.proofs.TokenLater.{list_later}
@@ -47,15 +47,25 @@ module _ {X : Type 0} (n : List ℕ) (R : Data → X → Type 0) (name : List �
 
 -- ---- a geometry's members
 
-module _ (t : Option LayerType) (s : Option PlacedCoordinates) (u : Option ArcRefLists) (i : Option Id) (p : Option Props) (name : List ℕ) (d : Data) (ms : Members) where
-  type_kept : (codes "type" ≡ name → ⊥) → KnowsType t ms → KnowsType t (put name d ms)
-  type_kept = member_kept (codes "type") no_faults IsType t name d ms
-
+module _ (s : Option PlacedCoordinates) (u : Option ArcRefLists) (name : List ℕ) (d : Data) (ms : Members) where
   coordinates_kept : (codes "coordinates" ≡ name → ⊥) → KnowsCoordinates s ms → KnowsCoordinates s (put name d ms)
   coordinates_kept = kept_still (codes "coordinates") IsCoordinates name d ms s
 
   lists_kept : (codes "arcs" ≡ name → ⊥) → KnowsLists u ms → KnowsLists u (put name d ms)
   lists_kept = kept_still (codes "arcs") AreLists name d ms u
+
+  pub with_coordinates : (x : Option PlacedCoordinates) → name ≡ codes "coordinates" → IsIfKept IsCoordinates d x → KnowsContent s u ms → KnowsContent x u (put name d ms)
+  with_coordinates x same is h = (kept_now (codes "coordinates") IsCoordinates name d ms x same is, lists_kept (apart (codes "coordinates") (codes "arcs") name refl same) h.1)
+
+  pub with_lists : (x : Option ArcRefLists) → name ≡ codes "arcs" → IsIfKept AreLists d x → KnowsContent s u ms → KnowsContent s x (put name d ms)
+  with_lists x same is h = (coordinates_kept (apart (codes "arcs") (codes "coordinates") name refl same) h.0, kept_now (codes "arcs") AreLists name d ms x same is)
+
+  pub content_kept : (codes "coordinates" ≡ name → ⊥) → (codes "arcs" ≡ name → ⊥) → KnowsContent s u ms → KnowsContent s u (put name d ms)
+  content_kept b c h = (coordinates_kept b h.0, lists_kept c h.1)
+
+module _ (t : Option LayerType) (s : Option PlacedCoordinates) (u : Option ArcRefLists) (i : Option Id) (p : Option Props) (name : List ℕ) (d : Data) (ms : Members) where
+  type_kept : (codes "type" ≡ name → ⊥) → KnowsType t ms → KnowsType t (put name d ms)
+  type_kept = member_kept (codes "type") no_faults IsType t name d ms
 
   id_kept : (codes "id" ≡ name → ⊥) → KnowsId i ms → KnowsId i (put name d ms)
   id_kept = member_kept (codes "id") id_faults IsIdOf i name d ms
@@ -66,35 +76,17 @@ module _ (t : Option LayerType) (s : Option PlacedCoordinates) (u : Option ArcRe
   pub with_type : (x : LayerType) → name ≡ codes "type" → IsType d x → KnowsGeom t s u i p ms → KnowsGeom (Some x) s u i p (put name d ms)
   with_type x same is h = (
     member_known (codes "type") no_faults IsType name d x ms same refl is,
-    coordinates_kept (apart (codes "type") (codes "coordinates") name refl same) h.1,
-    lists_kept (apart (codes "type") (codes "arcs") name refl same) h.2,
+    coordinates_kept s u name d ms (apart (codes "type") (codes "coordinates") name refl same) h.1,
+    lists_kept s u name d ms (apart (codes "type") (codes "arcs") name refl same) h.2,
     id_kept (apart (codes "type") (codes "id") name refl same) h.3,
     props_kept (apart (codes "type") (codes "properties") name refl same) h.4,
-  )
-
-  pub with_coordinates : (x : Option PlacedCoordinates) → name ≡ codes "coordinates" → IsIfKept IsCoordinates d x → KnowsGeom t s u i p ms → KnowsGeom t x u i p (put name d ms)
-  with_coordinates x same is h = (
-    type_kept (apart (codes "coordinates") (codes "type") name refl same) h.0,
-    kept_now (codes "coordinates") IsCoordinates name d ms x same is,
-    lists_kept (apart (codes "coordinates") (codes "arcs") name refl same) h.2,
-    id_kept (apart (codes "coordinates") (codes "id") name refl same) h.3,
-    props_kept (apart (codes "coordinates") (codes "properties") name refl same) h.4,
-  )
-
-  pub with_lists : (x : Option ArcRefLists) → name ≡ codes "arcs" → IsIfKept AreLists d x → KnowsGeom t s u i p ms → KnowsGeom t s x i p (put name d ms)
-  with_lists x same is h = (
-    type_kept (apart (codes "arcs") (codes "type") name refl same) h.0,
-    coordinates_kept (apart (codes "arcs") (codes "coordinates") name refl same) h.1,
-    kept_now (codes "arcs") AreLists name d ms x same is,
-    id_kept (apart (codes "arcs") (codes "id") name refl same) h.3,
-    props_kept (apart (codes "arcs") (codes "properties") name refl same) h.4,
   )
 
   pub with_id : (x : Id) → name ≡ codes "id" → id_faults d ≡ [] → IsIdOf d x → KnowsGeom t s u i p ms → KnowsGeom t s u (Some x) p (put name d ms)
   with_id x same none means h = (
     type_kept (apart (codes "id") (codes "type") name refl same) h.0,
-    coordinates_kept (apart (codes "id") (codes "coordinates") name refl same) h.1,
-    lists_kept (apart (codes "id") (codes "arcs") name refl same) h.2,
+    coordinates_kept s u name d ms (apart (codes "id") (codes "coordinates") name refl same) h.1,
+    lists_kept s u name d ms (apart (codes "id") (codes "arcs") name refl same) h.2,
     member_known (codes "id") id_faults IsIdOf name d x ms same none means,
     props_kept (apart (codes "id") (codes "properties") name refl same) h.4,
   )
@@ -102,14 +94,15 @@ module _ (t : Option LayerType) (s : Option PlacedCoordinates) (u : Option ArcRe
   pub with_props : (x : Props) → name ≡ codes "properties" → properties_faults d ≡ [] → properties_text x ≡ properties_of d → KnowsGeom t s u i p ms → KnowsGeom t s u i (Some x) (put name d ms)
   with_props x same none means h = (
     type_kept (apart (codes "properties") (codes "type") name refl same) h.0,
-    coordinates_kept (apart (codes "properties") (codes "coordinates") name refl same) h.1,
-    lists_kept (apart (codes "properties") (codes "arcs") name refl same) h.2,
+    coordinates_kept s u name d ms (apart (codes "properties") (codes "coordinates") name refl same) h.1,
+    lists_kept s u name d ms (apart (codes "properties") (codes "arcs") name refl same) h.2,
     id_kept (apart (codes "properties") (codes "id") name refl same) h.3,
     member_known (codes "properties") properties_faults (λ e y. properties_text y ≡ properties_of e) name d x ms same none means,
   )
 
-  pub with_other : (codes "type" ≡ name → ⊥) → (codes "coordinates" ≡ name → ⊥) → (codes "arcs" ≡ name → ⊥) → (codes "id" ≡ name → ⊥) → (codes "properties" ≡ name → ⊥) → KnowsGeom t s u i p ms → KnowsGeom t s u i p (put name d ms)
-  with_other a b c e f h = (type_kept a h.0, coordinates_kept b h.1, lists_kept c h.2, id_kept e h.3, props_kept f h.4)
+  -- what a geometry is made of may have changed
+  pub with_content : (x : Option PlacedCoordinates) (y : Option ArcRefLists) → (codes "type" ≡ name → ⊥) → (codes "id" ≡ name → ⊥) → (codes "properties" ≡ name → ⊥) → (KnowsContent s u ms → KnowsContent x y (put name d ms)) → KnowsGeom t s u i p ms → KnowsGeom t x y i p (put name d ms)
+  with_content x y a e f content h = let k = content (h.1, h.2) in (type_kept a h.0, k.0, k.1, id_kept e h.3, props_kept f h.4)
 
 -- ---- a geometry
 
@@ -128,8 +121,8 @@ geom_known k i p ms x t b of_id of_props is props shape =
 
 pub geoms_kept : (t : Option LayerType) (s : Option PlacedCoordinates) (u : Option ArcRefLists) (i : Option Id) (p : Option Props) (name : List ℕ) (d : Data) (ms : Members) → name ≡ codes "geometries" → KnowsGeom t s u i p ms → KnowsGeom t s u i p (put name d ms)
 geoms_kept t s u i p name d ms same =
-    with_other t s u i p name d ms (apart (codes "geometries") (codes "type") name refl same) (apart (codes "geometries") (codes "coordinates") name refl same) (apart (codes "geometries") (codes "arcs") name refl same)
-    (apart (codes "geometries") (codes "id") name refl same) (apart (codes "geometries") (codes "properties") name refl same)
+    with_content t s u i p name d ms s u (apart (codes "geometries") (codes "type") name refl same) (apart (codes "geometries") (codes "id") name refl same) (apart (codes "geometries") (codes "properties") name refl same)
+    (content_kept s u name d ms (apart (codes "geometries") (codes "coordinates") name refl same) (apart (codes "geometries") (codes "arcs") name refl same))
 
 pub collection_known : (gs : List Geom) (ms : Members) (c d : Data) → get (codes "type") (object ms) ≡ Some c → layer_by (text_or_null c) ≡ Ok Collection → get (codes "geometries") (object ms) ≡ Some d → list_faults no_faults d ≡ [] → AllZip GeometryMeans (elements d) gs
     → LayerMeans (object ms) gs

@@ -2,7 +2,7 @@
 use Rattle.std.proofs.Common.{◌≡◌, ℕ, List, [], ◌∷◌, length, Some, codes, sym, ap, ◌∙◌, subst, arith}
 use Rattle.std.specs.List.{AllZip}
 use Rattle.serde_json.specs.Data.{Data}
-use Rattle.serde_json.specs.Find.{get}
+use Rattle.serde_json.specs.Find.{get, as_object}
 use Rattle.faults.specs.Path.{name}
 use Rattle.faults.specs.Fault.{Pair}
 use Rattle.faults.specs.declared.fault.Fault.{Fault}
@@ -49,9 +49,9 @@ module _ (l : Limits) (v : Data) (xs : List (List Pos)) (n : ℕ) (counts : n �
   pub objects_none : loose_content l v ≡ [] → member_faults (codes "objects") (objects_faults l (counted n)) v ≡ []
   objects_none none = subst (λ k. member_faults (codes "objects") (objects_faults l k) v ≡ []) (sym count_is) (second_none _ _ none)
 
-  pub parts_are : (ls : List LayerParts) (d : Data) → get (codes "objects") v ≡ Some d → AreLayersOf d ls → ArePartsOf v xs ls
+  pub parts_are : (ls : List LayerParts) (d : Data) → get (codes "objects") v ≡ Some d → AreLayersOf (as_object d) ls → ArePartsOf v xs ls
   parts_are ls d there are =
-      let of = subst (λ o. AreLayersOf o ls) (sym (member_there (codes "objects") v d there)) are in
+      let of = subst (λ o. AreLayersOf (as_object o) ls) (sym (member_there (codes "objects") v d there)) are in
       record { arcs = arcs_are; layers = of.layers; ids = of.ids; names = of.names }
 
 pub arcs_none : (l : Limits) (v : Data) → loose_content l v ≡ [] → member_faults (codes "arcs") (list_faults (arc_faults l)) v ≡ []

@@ -120,10 +120,10 @@ geoms_of d = geoms_if_object (as_object (member_or_null (codes "objects") d))
 abbrev pub layer_of_geoms : LayerParts → List ℕ × List PlainGeom
 layer_of_geoms l = (spelled_text l.name, map plain_geom l.geometries)
 
--- the layers are those of the value of `objects`
-pub record AreLayersOf (d : Data) (ls : List LayerParts) : Type 0 where
-  pub layers : map layer_of_geoms ls ≡ geoms_if_object (as_object d)
-  pub ids : AllByRecursion LayerStored (geoms_if_object (as_object d))
+-- the layers are those of an object's members
+pub record AreLayersOf (o : Option Members) (ls : List LayerParts) : Type 0 where
+  pub layers : map layer_of_geoms ls ≡ geoms_if_object o
+  pub ids : AllByRecursion LayerStored (geoms_if_object o)
   pub names : Distinct (map (λ l. spelled_text l.name) ls)
 
 -- ---- faults without those of stitched lists

@@ -60,6 +60,10 @@ KnowsCoordinates = KnowsIfKept (codes "coordinates") IsCoordinates
 abbrev pub KnowsLists : Option ArcRefLists → Members → Type 0
 KnowsLists = KnowsIfKept (codes "arcs") AreLists
 
+-- the members `coordinates` and `arcs`, where they were kept, of the members that are read
+abbrev pub KnowsContent : Option PlacedCoordinates → Option ArcRefLists → Members → Type 0
+KnowsContent s u ms = KnowsCoordinates s ms × KnowsLists u ms
+
 -- the members of a geometry that are read: type, coordinates, arcs, id and properties
 abbrev pub KnowsGeom : Option LayerType → Option PlacedCoordinates → Option ArcRefLists → Option Id → Option Props → Members → Type 0
 KnowsGeom t s u i p ms = KnowsType t ms × KnowsCoordinates s ms × KnowsLists u ms × KnowsId i ms × KnowsProps p ms

@@ -5,7 +5,7 @@ ghost use Rattle.topo_text.specs.Parts.{AreSaid};
 pub mod arc;
 pub mod body;
 pub mod bounds;
-pub mod foreign;
+pub mod content;
 pub mod geometry;
 pub mod layer;
 pub mod lists;

@@ -1,4 +1,5 @@
 //! The layers of a topology: its member `objects` (TopoJSON, section 2.1.5).
+ghost use Rattle.serde_json.specs.Find.{as_object};
 ghost use Rattle.shapes.specs.Parts.{spelled_text};
 ghost use Rattle.std.specs.Prelude.{◌≡◌, map, string_bytes, IfOk};
 ghost use Rattle.topo_text.specs.Arcs.{counted};
@@ -38,7 +39,7 @@ impl Part for ObjectsOf {
 
     ghost faults = { λ p. objects_faults p.on.limits (counted p.on.count) };
 
-    ghost means = { λ p d ls. AreLayersOf d ls.items };
+    ghost means = { λ p d ls. AreLayersOf (as_object d) ls.items };
 
     fn read(&self, alloc: Global, value: &Value) -> Result<Vec<Layer>, Fault> {
         let Some(members) = value.as_object() else {

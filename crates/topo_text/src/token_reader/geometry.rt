@@ -9,10 +9,7 @@ ghost use Rattle.std.specs.Prelude.{◌≡◌, ◌<◌, ℕ, length, codes, IfOk
 
 use crate::reader::layer_type::LayerType;
 use crate::token_reader::body::{body_of_coordinates, body_of_lists};
-use crate::token_reader::foreign::{
-    coordinates_unless_foreign, has_coordinates, lists_unless_foreign,
-};
-use crate::token_reader::lists::{ArcRefLists, PlacedCoordinates};
+use crate::token_reader::content::{ContentMembers, has_coordinates};
 use json::{Reader, Token};
 use reading::geometry::GeometryType;
 use reading::info::{Ids, Properties};
@@ -20,7 +17,6 @@ use reading::token_parts::info::props_or_empty;
 use reading::token_parts::part::read_part;
 use reading::tokens::from_tokens::{FromTokens, Stop};
 use reading::tokens::object::{TakeMember, read_object};
-use reading::tokens::skip::skip_value;
 use shapes::props::Props;
 use shapes::shape::Id;
 use std::alloc::Global;
@@ -30,22 +26,21 @@ use topo::{Body, Geom};
 #[derive(Drop)]
 pub struct GeomMembers {
     pub kind: Option<LayerType>,
-    /// None where there are none, or the last were foreign.
-    pub coordinates: Option<PlacedCoordinates>,
-    /// None where there are none, or the last were foreign.
-    pub lists: Option<ArcRefLists>,
+    pub content: ContentMembers,
     pub id: Option<Id>,
     pub props: Option<Props>,
 }
 
 /// Nothing is known.
 pub fn no_members() -> GeomMembers
-    ensures { KnowsGeom result.kind result.coordinates result.lists result.id result.props Members.no_members }
+    ensures { KnowsGeom result.kind result.content.coordinates result.content.lists result.id result.props Members.no_members }
 {
     GeomMembers {
         kind: None,
-        coordinates: None,
-        lists: None,
+        content: ContentMembers {
+            coordinates: None,
+            lists: None,
+        },
         id: None,
         props: None,
     }
@@ -81,7 +76,7 @@ fn take_kind<'a>(reader: &mut Reader<'a>) -> Result<LayerType, Stop>
 impl TakeMember for GeomMembers {
     type On = ();
 
-    ghost knows = { λ on m ms. KnowsGeom m.kind m.coordinates m.lists m.id m.props ms };
+    ghost knows = { λ on m ms. KnowsGeom m.kind m.content.coordinates m.content.lists m.id m.props ms };
 
     fn take<'a>(
         &mut self,
@@ -96,16 +91,6 @@ impl TakeMember for GeomMembers {
             self.kind = Some(kind);
             return Ok(());
         }
-        if name == "coordinates" {
-            let coordinates = coordinates_unless_foreign(alloc, self.kind, reader, depth)?;
-            self.coordinates = coordinates;
-            return Ok(());
-        }
-        if name == "arcs" {
-            let lists = lists_unless_foreign(alloc, self.kind, reader, depth)?;
-            self.lists = lists;
-            return Ok(());
-        }
         if name == "id" {
             let id = read_part(alloc, &Ids, reader, depth)?;
             self.id = Some(id);
@@ -116,19 +101,16 @@ impl TakeMember for GeomMembers {
             self.props = Some(props);
             return Ok(());
         }
-        skip_value(reader, depth)
+        let kind = self.kind;
+        self.content.take(alloc, &kind, name, reader, depth)
     }
 }
 
 /// The body of a geometry of that type, none for null.
-fn body_of(
-    alloc: Global,
-    kind: Option<GeometryType>,
-    coordinates: Option<PlacedCoordinates>,
-    lists: Option<ArcRefLists>,
-) -> Result<Body, Stop>
-    ensures { IfOk result (λ b. (ms : Members) → KnowsCoordinates coordinates ms → KnowsLists lists ms → ShapeMeans kind (object ms) b) }
+fn body_of(alloc: Global, kind: Option<GeometryType>, content: ContentMembers) -> Result<Body, Stop>
+    ensures { IfOk result (λ b. (ms : Members) → KnowsCoordinates content.coordinates ms → KnowsLists content.lists ms → ShapeMeans kind (object ms) b) }
 {
+    let ContentMembers { coordinates, lists } = content;
     let Some(kind) = kind else {
         return Ok(Body::Null);
     };
@@ -151,16 +133,15 @@ pub fn geom_of(
     kind: Option<GeometryType>,
     members: GeomMembers,
 ) -> Result<Geom, Stop>
-    ensures { IfOk result (λ g. (ms : Members) → KnowsGeom members.kind members.coordinates members.lists members.id members.props ms → GeomMeans kind (object ms) g) }
+    ensures { IfOk result (λ g. (ms : Members) → KnowsGeom members.kind members.content.coordinates members.content.lists members.id members.props ms → GeomMeans kind (object ms) g) }
 {
     let GeomMembers {
         kind: _,
-        coordinates,
-        lists,
+        content,
         id,
         props,
     } = members;
-    let body = body_of(alloc, kind, coordinates, lists)?;
+    let body = body_of(alloc, kind, content)?;
     let props = props_or_empty(alloc, props)?;
     let id = id.unwrap_or(Id::None);
     Ok(Geom { id, props, body })

@@ -22,7 +22,7 @@ pub struct LayerMembers {
 impl TakeMember for LayerMembers {
     type On = ();
 
-    ghost knows = { λ on m ms. KnowsGeom m.geom.kind m.geom.coordinates m.geom.lists m.geom.id m.geom.props ms × KnowsGeoms m.geoms ms };
+    ghost knows = { λ on m ms. KnowsGeom m.geom.kind m.geom.content.coordinates m.geom.content.lists m.geom.id m.geom.props ms × KnowsGeoms m.geoms ms };
 
     fn take<'a>(
         &mut self,
@@ -42,7 +42,7 @@ impl TakeMember for LayerMembers {
 }
 
 fn layer_of(alloc: Global, members: LayerMembers) -> Result<Vec<Geom>, Stop>
-    ensures { IfOk result (λ gs. (ms : Members) → KnowsGeom members.geom.kind members.geom.coordinates members.geom.lists members.geom.id members.geom.props ms → KnowsGeoms members.geoms ms → LayerMeans (object ms) gs.items) }
+    ensures { IfOk result (λ gs. (ms : Members) → KnowsGeom members.geom.kind members.geom.content.coordinates members.geom.content.lists members.geom.id members.geom.props ms → KnowsGeoms members.geoms ms → LayerMeans (object ms) gs.items) }
 {
     let LayerMembers { geom, geoms } = members;
     match geom.kind {

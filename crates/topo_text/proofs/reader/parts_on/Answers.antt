@@ -1,6 +1,5 @@
-use Rattle.std.proofs.Common.{◌≡◌, [], ap, sym, ◌∙◌, subst, rules}
+use Rattle.std.proofs.Common.{◌≡◌, [], subst, rules}
 use Rattle.serde_json.specs.View.{view}
-use Rattle.reading.specs.Fault.{LeastOrWant}
 use Rattle.topo_text.specs.Limits.{limits_on}
 use Rattle.topo_text.specs.Parts.{NotOrWant, loose_content}
 use Rattle.topo_text.proofs.Values.{part_refused, arcs_none, objects_none, content_none, parts_are}

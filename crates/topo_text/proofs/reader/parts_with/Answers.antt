@@ -1,4 +1,4 @@
-use Rattle.std.proofs.Common.{◌≡◌, [], Some, sym, ap, ◌∙◌, subst, rules}
+use Rattle.std.proofs.Common.{◌≡◌, [], Some, sym, ◌∙◌, subst, rules}
 use Rattle.serde_json.specs.View.{view}
 use Rattle.reading.proofs.Results.{ok_map, on_ok_map, err_map}
 use Rattle.topo_text.specs.Limits.{limits_on}

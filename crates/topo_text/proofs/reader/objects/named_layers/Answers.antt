@@ -1,4 +1,4 @@
-use Rattle.std.proofs.Common.{sym, ap, ◌∙◌}
+use Rattle.std.proofs.Common.{sym, ◌∙◌}
 use Rattle.topo_text.proofs.Each.{one_made, all_made, none_left}
 use Rattle.topo_text.proofs.Objects.{named_of, named_read}
 use Rattle.topo_text.proofs.reader.objects.named_layers.Goals as goal

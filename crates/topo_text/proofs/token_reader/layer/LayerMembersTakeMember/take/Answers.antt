@@ -16,7 +16,7 @@ returns-then-eq-clause-read c =
       r.from,
       r.given,
       λ ms known. (
-        geoms_kept m.kind m.coordinates m.lists m.id m.props name r.from ms same known.0,
+        geoms_kept m.kind m.content.coordinates m.content.lists m.id m.props name r.from ms same known.0,
         member_known (codes "geometries") (list_faults no_faults) (λ d gs. AllZip GeometryMeans (elements d) gs.items) name r.from c.in_ok-geoms.geoms ms same r.faultless r.meant,
       ),
     )

@@ -1,15 +1,17 @@
-//! Members of a geometry that its type has no use for: coordinates of lines, and lists of arcs of points.
+//! Coordinates and lists of arcs of a geometry. Its type has no use for one of them: coordinates of lines, and lists of
+//! arcs of points.
 ghost use Rattle.reading.specs.Tokens.Reads.{Gives};
 ghost use Rattle.serde_json.specs.Data.{Data};
 ghost use Rattle.std.specs.Prelude.{IfOk};
 ghost use Rattle.topo_text.specs.TokenLater.{IsCoordinates, AreLists};
-ghost use Rattle.topo_text.specs.TokenMembers.{IsIfKept};
+ghost use Rattle.topo_text.specs.TokenMembers.{IsIfKept, KnowsContent};
 
 use crate::reader::layer_type::LayerType;
 use crate::token_reader::lists::{ArcRefLists, PlacedCoordinates, read_coordinates, read_lists};
 use json::Reader;
 use reading::geometry::GeometryType;
 use reading::tokens::from_tokens::Stop;
+use reading::tokens::object::TakeMember;
 use reading::tokens::skip::skip_value;
 use std::alloc::Global;
 
@@ -37,7 +39,7 @@ fn may_have_lists(kind: Option<LayerType>) -> bool {
 }
 
 /// The coordinates that come next, none where they are foreign.
-pub fn coordinates_unless_foreign<'a>(
+fn coordinates_unless_foreign<'a>(
     alloc: Global,
     kind: Option<LayerType>,
     reader: &mut Reader<'a>,
@@ -54,7 +56,7 @@ pub fn coordinates_unless_foreign<'a>(
 }
 
 /// The lists of arcs that come next, none where they are foreign.
-pub fn lists_unless_foreign<'a>(
+fn lists_unless_foreign<'a>(
     alloc: Global,
     kind: Option<LayerType>,
     reader: &mut Reader<'a>,
@@ -68,4 +70,41 @@ pub fn lists_unless_foreign<'a>(
     }
     skip_value(reader, depth)?;
     Ok(None)
+}
+
+/// What is known of the members that a geometry is made of.
+#[derive(Drop)]
+pub struct ContentMembers {
+    /// None where there are none, or the last were foreign.
+    pub coordinates: Option<PlacedCoordinates>,
+    /// None where there are none, or the last were foreign.
+    pub lists: Option<ArcRefLists>,
+}
+
+impl TakeMember for ContentMembers {
+    /// The type of the geometry, where it is known yet.
+    type On = Option<LayerType>;
+
+    ghost knows = { λ on m ms. KnowsContent m.coordinates m.lists ms };
+
+    fn take<'a>(
+        &mut self,
+        alloc: Global,
+        kind: &Option<LayerType>,
+        name: &'a str,
+        reader: &mut Reader<'a>,
+        depth: usize,
+    ) -> Result<(), Stop> {
+        if name == "coordinates" {
+            let coordinates = coordinates_unless_foreign(alloc, *kind, reader, depth)?;
+            self.coordinates = coordinates;
+            return Ok(());
+        }
+        if name == "arcs" {
+            let lists = lists_unless_foreign(alloc, *kind, reader, depth)?;
+            self.lists = lists;
+            return Ok(());
+        }
+        skip_value(reader, depth)
+    }
 }
