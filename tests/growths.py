@@ -89,7 +89,6 @@ MODULES = {
     "topo_text::reader::layer": "has parts of topo_io::read_parts_as_value",
     "topo_text::reader::position": "has parts of topo_io::read_parts_as_value",
     "topo_text::reader::transform": "has parts of topo_io::read_parts_as_value",
-    "topo_text::validity::position": "has parts of topo_io::faults",
     "topo_text::validity::transform": "has parts of topo_io::faults",
 }
 LAWS = "laws"  # How names of modules end that are of functions that have no answer: their contracts are what they are for.

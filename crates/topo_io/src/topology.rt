@@ -106,7 +106,7 @@ fn topology_or_fault(alloc: Global, bytes: &[u8], parts: TextParts) -> Result<To
     }
 }
 
-/// The parts of a topology's text, read by way of its JSON value. The value is judged first, so that nothing is
+/// The parts of a topology's text, read by way of its JSON value. The value is validated first, so that nothing is
 /// made of a text that has an error.
 ///
 /// # Errors

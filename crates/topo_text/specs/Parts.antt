@@ -78,6 +78,7 @@ geom_of k d = record {
   body = body_in k d;
 }
 
+-- the geometry that a value means, as plain data
 abbrev pub geometry_geom : Data → PlainGeom
 geometry_geom d = geom_of (type_or_none (geometry_type d)) d
 
@@ -87,6 +88,7 @@ IdStored none = Unit {0}
 IdStored (number n) = IsI64 n
 IdStored (text s) = Unit {0}
 
+-- an id that is a number has 64 bits
 abbrev pub GeomStored : PlainGeom → Type 0
 GeomStored g = IdStored g.id
 
@@ -95,6 +97,7 @@ LayerStored l = AllByRecursion GeomStored l.1
 
 -- ---- layers
 
+-- the geometries of a layer of this type; none where the type has a fault
 abbrev pub geoms_as : Data → Result LayerType FaultKind → List PlainGeom
 geoms_as d (Err f) = []
 geoms_as d (Ok Collection) = map geometry_geom (elements (member_or_null (codes "geometries") d))
@@ -132,13 +135,16 @@ pub record AreLayersOf (o : Option Members) (ls : List LayerParts) : Type 0 wher
 abbrev pub arc_count : Data → Arcs
 arc_count d = counted (length (arcs_of (member_or_null (codes "arcs") d)))
 
+-- the faults of arcs and objects, without those of stitched lists
 abbrev pub loose_content : Limits → Data → List Pair
 loose_content l d = member_faults (codes "arcs") (list_faults (arc_faults l)) d ++ member_faults (codes "objects") (objects_faults l (arc_count d)) d
 
+-- those and the faults of the transform, `NoTransform` alone where there is none
 abbrev pub loose_transformed : Data → Option Data → List Pair
 loose_transformed d None = under (name (codes "transform")) (here NoTransform)
 loose_transformed d (Some t) = loose_content (limits_of t) d ++ under (name (codes "transform")) (transform_faults t)
 
+-- the faults of a topology without those of stitched lists [TopoJSON, 2.1; own]
 abbrev pub loose_topology : Data → List Pair
 loose_topology d = object_faults (typed_faults (λ _. loose_transformed d (get (codes "transform") d)) (named topology_named (type_text d))) (as_object d)
 

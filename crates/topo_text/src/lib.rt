@@ -1,4 +1,4 @@
-//! The parts of a topology's text: read along its tokens or by way of its JSON value, and judged.
+//! The parts of a topology's text: read along its tokens or by way of its JSON value, and validated.
 #![tactic(auto)]
 
 pub mod parts;

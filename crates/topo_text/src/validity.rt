@@ -1,5 +1,5 @@
 //! The faults of positions, arcs and transforms, all or the first.
 
 pub mod arc;
-pub mod position;
+mod position;
 pub mod transform;
