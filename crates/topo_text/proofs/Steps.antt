@@ -1,20 +1,18 @@
 -- Steps from position to position.
 use Rattle.std.proofs.Common.{◌≡◌, ℕ, ℤ, ◌<◌, ◌+◌, ◌+ℤ◌, false, ◌&&◌, List, [], ◌∷◌, length, map, drop, get_or, Option, Some, None, if◌then◌else◌, sym, ap, ◌∙◌}
 use Rattle.std.proofs.lemmas.List.{drop_more}
-use Rattle.serde_json.specs.Data.{Data}
 use Rattle.serde_json.specs.View.{view}
 use Rattle.serde_json.specs.declared.value.Value.{Value}
 use Rattle.faults.specs.Fault.{pair_of}
 use Rattle.faults.specs.declared.fault.Fault.{Fault}
 use Rattle.faults.specs.declared.fault.FaultKind.TheVariants.{OutOfRange}
-use Rattle.grid.specs.Place.{Scaling, IsGridNumber, absolute}
+use Rattle.grid.specs.Place.{Scaling, absolute}
 use Rattle.grid.specs.Computed.{is_grid_number, is_absolute}
 use Rattle.grid.specs.declared.pos.Pos.{Pos}
 use Rattle.reading.specs.Fault.{LeastOrWant, here}
-use Rattle.reading.specs.Parts.{IsPair}
 use Rattle.reading.proofs.Least.{only_of}
 use Rattle.reading.proofs.Positions.{position_itself}
-use Rattle.topo_text.specs.Limits.{allows, limit_faults, Sums, sums_at, moved, moved_both, next_sums, place_of}
+use Rattle.topo_text.specs.Limits.{allows, limit_faults, Sums, sums_at, next_sums, place_of}
 use Rattle.topo_text.specs.Arcs.{places_from}
 
 pub not_allowed : (l : Option Scaling) (n : ℤ) → is_grid_number n ≡ false → allows l n ≡ false
@@ -30,22 +28,3 @@ pub places_passed : (s : Sums) (vs : List Value) (i : ℕ) (v : Value) (p : Pos)
     → places_from s (map view (drop i vs)) ≡ p ∷ places_from (sums_at p.x p.y) (map view (drop (i + 1) vs))
 places_passed s vs i v p less is goes =
     rw (drop_more vs i v less, ← is) (λ j. (ap place_of goes ∙ sym (position_itself p)) j ∷ places_from (goes j) (map view (drop (i + 1) vs)))
-
--- ---- a pair of differences
-
--- a difference from a number, and the sum that it makes
-abbrev pub IsSum : ℤ → Data → ℤ → Type 0
-IsSum from d n = (moved (Some from) d ≡ Some n) × IsGridNumber n
-
-module _ (a b : ℤ) where
-  pub sums_inside : (ds : List Data) (x y : ℤ) → IsPair (IsSum a) (IsSum b) ds x y → IsGridNumber x × IsGridNumber y
-  sums_inside [] x y h = absurd h
-  sums_inside (c ∷ []) x y h = absurd h
-  sums_inside (c ∷ d ∷ []) x y h = (h.0.1, h.1.1)
-  sums_inside (c ∷ d ∷ e ∷ ds) x y h = absurd h
-
-  pub sums_moved : (ds : List Data) (x y : ℤ) (q : Pos) → IsPair (IsSum a) (IsSum b) ds x y → q.x ≡ x → q.y ≡ y → moved_both (sums_at a b) ds ≡ sums_at q.x q.y
-  sums_moved [] x y q h e f = absurd h
-  sums_moved (c ∷ []) x y q h e f = absurd h
-  sums_moved (c ∷ d ∷ []) x y q h e f = λ i. record { x = (h.0.0 ∙ ap Some (sym e)) i; y = (h.1.0 ∙ ap Some (sym f)) i }
-  sums_moved (c ∷ d ∷ g ∷ ds) x y q h e f = absurd h
