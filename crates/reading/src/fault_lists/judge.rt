@@ -7,6 +7,7 @@ ghost use Rattle.serde_json.specs.View.{view};
 ghost use Rattle.std.specs.Prelude.{List, map, IfOk};
 
 use crate::fault_lists::found::{Wanted, is_enough, one, put_under_index};
+use crate::parts::part::Part;
 use faults::OutOfMemory;
 use faults::fault::{Fault, FaultKind};
 use serde_json::Value;
@@ -102,6 +103,19 @@ pub fn judge_pair<J: Judge, K: Judge>(
     match value.as_array() {
         Some(items) => { Ok(judge_two(alloc, wanted, first, second, items)?) }
         None => { Ok(one(alloc, FaultKind::WrongKind)?) }
+    }
+}
+
+impl<P: Part> Judge for P {
+    ghost faults = { P.faults };
+
+    fn judge(
+        &self,
+        alloc: Global,
+        wanted: Wanted,
+        value: &Value,
+    ) -> Result<Vec<Fault>, OutOfMemory> {
+        Part::judge(self, alloc, wanted, value)
     }
 }
 

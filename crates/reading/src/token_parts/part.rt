@@ -3,7 +3,7 @@
 ghost use Rattle.reading.specs.Tokens.Reads.{Reads};
 ghost use Rattle.std.specs.Prelude.{◌<◌, length, IfOk, OnOk};
 
-use crate::part::Part;
+use crate::parts::part::{Part, read_value};
 use crate::tokens::from_tokens::Stop;
 use crate::tokens::value::make_value;
 use json::Reader;
@@ -19,7 +19,7 @@ pub fn read_part<'a, P: Part>(
     ensures { IfOk result (λ x. Reads (P.faults part.now) (P.means part.now) depth reader.old reader.new x) }
 {
     let value = make_value(alloc, reader, depth)?;
-    match part.read(alloc, &value) {
+    match read_value(alloc, part, &value) {
         Ok(made) => Ok(made),
         Err(_) => Err(Stop::Unread),
     }
