@@ -1,14 +1,14 @@
 //! Ids and properties.
-ghost use Rattle.reading.specs.Fault.{LeastOrWant};
+ghost use Rattle.reading.specs.Fault.{LeastOrWant, here};
 ghost use Rattle.reading.specs.FaultLists.Found.{AreFound, AtMostOne, pairs_of};
 ghost use Rattle.reading.specs.Info.{IsIdOf, IsInfoOf, depth_faults, id_faults, id_of, info_faults, member_or_null, number_in_faults, properties_faults, properties_of};
 ghost use Rattle.reading.specs.Plain.{plain_id};
 ghost use Rattle.serde_json.specs.View.{view};
 ghost use Rattle.shapes.specs.Ids.{HasI64};
 ghost use Rattle.shapes.specs.Parts.{properties_text};
-ghost use Rattle.std.specs.Prelude.{◌≡◌, ◌++◌, [], IfOk, IfErr, OnOk, codes};
+ghost use Rattle.std.specs.Prelude.{◌≡◌, ◌++◌, [], if◌then◌else◌, IfOk, IfErr, OnOk, codes};
 
-use crate::fault_lists::found::{Wanted, is_enough, join, one};
+use crate::fault_lists::found::{Faults, Wanted, is_enough, join, one};
 use crate::parts::members::OptionOf;
 use crate::parts::pairs::Both;
 use crate::parts::part::{Part, read_value};
@@ -33,12 +33,7 @@ impl Part for Ids {
     ghost means = { λ _ d x. IsIdOf d x };
 
     #[tactic(auto, using(crate::proofs::FaultListsLemmas::Wholes::found_leaf))]
-    fn judge(
-        &self,
-        alloc: Global,
-        wanted: Wanted,
-        value: &Value,
-    ) -> Result<Vec<Fault>, OutOfMemory> {
+    fn judge(&self, alloc: Global, wanted: Wanted, value: &Value) -> Faults {
         match value {
             Value::Null | Value::String(_) => Ok(Vec::new(alloc)),
             Value::Number(number) => match number.as_i64() {
@@ -65,38 +60,29 @@ impl Part for Ids {
 #[derive(Clone, Copy)]
 pub struct Properties;
 
+// A fault of that kind, where there is one.
 #[tactic(auto, using(crate::proofs::FaultListsLemmas::Kept::one_none))]
-fn number_fault(alloc: Global, value: &Value) -> Result<Vec<Fault>, OutOfMemory>
-    ensures { IfOk result (λ fs. AtMostOne (number_in_faults (view value.now)) (pairs_of fs.items)) }
+fn one_if(alloc: Global, is: bool, kind: FaultKind) -> Faults
+    ensures { IfOk result (λ fs. AtMostOne (if is then here kind else []) (pairs_of fs.items)) }
 {
-    if has_fraction(value) {
-        Ok(one(alloc, FaultKind::PropertyNumber)?)
+    if is {
+        Ok(one(alloc, kind)?)
     } else {
         Ok(Vec::new(alloc))
-    }
-}
-
-#[tactic(auto, using(crate::proofs::FaultListsLemmas::Kept::one_none))]
-fn depth_fault(alloc: Global, value: &Value) -> Result<Vec<Fault>, OutOfMemory>
-    ensures { IfOk result (λ fs. AtMostOne (depth_faults (view value.now)) (pairs_of fs.items)) }
-{
-    if nests_within(value, GREATEST_PROPERTY_DEPTH) {
-        Ok(Vec::new(alloc))
-    } else {
-        Ok(one(alloc, FaultKind::PropertyDepth)?)
     }
 }
 
 // Both kinds of faults of an object.
 #[tactic(auto, using(crate::proofs::FaultListsLemmas::Kept::found_more, crate::proofs::FaultListsLemmas::Kept::found_enough, crate::proofs::FaultListsLemmas::Kept::found_same))]
-fn judge_object(alloc: Global, wanted: Wanted, value: &Value) -> Result<Vec<Fault>, OutOfMemory>
+fn judge_object(alloc: Global, wanted: Wanted, value: &Value) -> Faults
     ensures { IfOk result (λ fs. AreFound wanted (number_in_faults (view value.now) ++ depth_faults (view value.now)) (pairs_of fs.items)) }
 {
-    let number = number_fault(alloc, value)?;
+    let number = one_if(alloc, has_fraction(value), FaultKind::PropertyNumber)?;
     if is_enough(wanted, &number) {
         return Ok(number);
     }
-    let depth = depth_fault(alloc, value)?;
+    let deep = !nests_within(value, GREATEST_PROPERTY_DEPTH);
+    let depth = one_if(alloc, deep, FaultKind::PropertyDepth)?;
     let found = join(number, depth)?;
     Ok(found)
 }
@@ -109,12 +95,7 @@ impl Part for Properties {
     ghost means = { λ _ d x. properties_text x ≡ properties_of d };
 
     #[tactic(auto, using(crate::proofs::FaultListsLemmas::Wholes::found_leaf))]
-    fn judge(
-        &self,
-        alloc: Global,
-        wanted: Wanted,
-        value: &Value,
-    ) -> Result<Vec<Fault>, OutOfMemory> {
+    fn judge(&self, alloc: Global, wanted: Wanted, value: &Value) -> Faults {
         match value {
             Value::Null => Ok(Vec::new(alloc)),
             Value::Object(_) => Ok(judge_object(alloc, wanted, value)?),
@@ -162,12 +143,7 @@ impl Part for Info {
 
     ghost means = { λ _ d x. IsInfoOf d x.0 x.1 };
 
-    fn judge(
-        &self,
-        alloc: Global,
-        wanted: Wanted,
-        value: &Value,
-    ) -> Result<Vec<Fault>, OutOfMemory> {
+    fn judge(&self, alloc: Global, wanted: Wanted, value: &Value) -> Faults {
         members().judge(alloc, wanted, value)
     }
 

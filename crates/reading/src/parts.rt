@@ -1,10 +1,9 @@
 //! Parts of a text: each is judged, which finds its faults, and then made, which gives what it means.
 //!
-//! What is made has no faults, so what makes it refuses nothing. Lists, pairs, members and objects of parts are parts.
+//! What is made has no faults, so what makes it refuses nothing. Lists, pairs and members of parts are parts.
 
 pub mod lists;
 pub mod members;
-pub mod objects;
 pub mod pairs;
 pub mod part;
 pub mod shape;

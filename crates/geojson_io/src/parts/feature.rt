@@ -6,12 +6,13 @@ ghost use Rattle.std.specs.Prelude.{◌≡◌, IfOk, codes};
 use crate::parts::geometry::GeometryOrNull;
 use crate::parts::position::Position;
 use faults::OutOfMemory;
-use faults::fault::Fault;
-use reading::fault_lists::found::Wanted;
+use faults::fault::FaultKind;
+use reading::fault_lists::found::{Faults, Wanted, one};
+use reading::fault_lists::types::type_fault;
 use reading::info::Info;
+use reading::part::judge_type;
 use reading::parts::Part;
 use reading::parts::members::OptionOf;
-use reading::parts::objects::ObjectOf;
 use reading::parts::pairs::Both;
 use serde_json::Value;
 use shapes::feature::Feature;
@@ -50,12 +51,7 @@ impl Part for FeatureMembers {
 
     ghost means = { λ p d f. plain f ≡ feature_of p.position.grid d };
 
-    fn judge(
-        &self,
-        alloc: Global,
-        wanted: Wanted,
-        value: &Value,
-    ) -> Result<Vec<Fault>, OutOfMemory> {
+    fn judge(&self, alloc: Global, wanted: Wanted, value: &Value) -> Faults {
         self.members().judge(alloc, wanted, value)
     }
 
@@ -72,21 +68,6 @@ pub struct FeatureElement {
     pub position: Position,
 }
 
-impl FeatureElement {
-    fn object(&self) -> ObjectOf<FeatureMembers>
-        ensures name { result.name.now ≡ codes "Feature" }
-        ensures position { result.of.position ≡ self.now.position }
-    {
-        let of = FeatureMembers {
-            position: self.position,
-        };
-        ObjectOf {
-            name: "Feature",
-            of,
-        }
-    }
-}
-
 impl Part for FeatureElement {
     type Made = Feature;
 
@@ -94,16 +75,20 @@ impl Part for FeatureElement {
 
     ghost means = { λ p d f. plain f ≡ feature_of p.position.grid d };
 
-    fn judge(
-        &self,
-        alloc: Global,
-        wanted: Wanted,
-        value: &Value,
-    ) -> Result<Vec<Fault>, OutOfMemory> {
-        self.object().judge(alloc, wanted, value)
+    #[tactic(auto, using(reading::proofs::FaultListsLemmas::Wholes::found_leaf))]
+    fn judge(&self, alloc: Global, wanted: Wanted, value: &Value) -> Faults {
+        if !value.is_object() {
+            return Ok(one(alloc, FaultKind::WrongKind)?);
+        }
+        let position = self.position;
+        match judge_type(value, "Feature") {
+            Ok(()) => FeatureMembers { position }.judge(alloc, wanted, value),
+            Err(kind) => Ok(type_fault(alloc, kind)?),
+        }
     }
 
     fn make(&self, alloc: Global, value: &Value) -> Result<Feature, OutOfMemory> {
-        self.object().make(alloc, value)
+        let position = self.position;
+        FeatureMembers { position }.make(alloc, value)
     }
 }

@@ -8,10 +8,10 @@ ghost use Rattle.std.specs.Prelude.{◌≡◌, [], IfOk, codes};
 use crate::parts::outline::OutlineOf;
 use crate::parts::position::Position;
 use faults::OutOfMemory;
-use faults::fault::{Fault, FaultKind};
+use faults::fault::FaultKind;
 use lines::line::Line;
 use lines::ring::Ring;
-use reading::fault_lists::found::{Wanted, one};
+use reading::fault_lists::found::{Faults, Wanted, one};
 use reading::fault_lists::types::type_fault;
 use reading::geometry::GeometryType;
 use reading::parts::Part;
@@ -63,12 +63,7 @@ impl Part for TypedGeometry {
 
     ghost means = { λ p d s. plain_form s ≡ typed_form p.position.grid p.kind d };
 
-    fn judge(
-        &self,
-        alloc: Global,
-        wanted: Wanted,
-        value: &Value,
-    ) -> Result<Vec<Fault>, OutOfMemory> {
+    fn judge(&self, alloc: Global, wanted: Wanted, value: &Value) -> Faults {
         self.coordinates().judge(alloc, wanted, value)
     }
 
@@ -91,12 +86,7 @@ impl Part for GeometryOrNull {
     ghost means = { λ p d s. plain_form s ≡ geometry_form p.position.grid d };
 
     #[tactic(auto, using(reading::proofs::FaultListsLemmas::Wholes::found_leaf))]
-    fn judge(
-        &self,
-        alloc: Global,
-        wanted: Wanted,
-        value: &Value,
-    ) -> Result<Vec<Fault>, OutOfMemory> {
+    fn judge(&self, alloc: Global, wanted: Wanted, value: &Value) -> Faults {
         if value.is_null() {
             return Ok(Vec::new(alloc));
         }

@@ -6,8 +6,7 @@ ghost use Rattle.std.specs.Prelude.{◌≡◌, IfOk};
 
 use crate::parts::position::Position;
 use faults::OutOfMemory;
-use faults::fault::Fault;
-use reading::fault_lists::found::Wanted;
+use reading::fault_lists::found::{Faults, Wanted};
 use reading::fault_lists::shape::judge_outline;
 use reading::outline::{Outline, make_outline};
 use reading::parts::Part;
@@ -43,12 +42,7 @@ impl<O: Outline> Part for OutlineOf<O> {
     ghost means = { λ p d o. O.seen o ≡ O.of (positions_of p.position.grid d) };
 
     #[tactic(auto, using(reading::proofs::FaultListsLemmas::Wholes::found_leaf, reading::proofs::FaultListsLemmas::Wholes::unless_found))]
-    fn judge(
-        &self,
-        alloc: Global,
-        wanted: Wanted,
-        value: &Value,
-    ) -> Result<Vec<Fault>, OutOfMemory> {
+    fn judge(&self, alloc: Global, wanted: Wanted, value: &Value) -> Faults {
         let positions = ListOf { of: self.position };
         let found = positions.judge(alloc, wanted, value)?;
         if !found.is_empty() {

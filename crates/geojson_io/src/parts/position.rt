@@ -6,10 +6,10 @@ ghost use Rattle.reading.specs.FaultLists.Found.{AtMostOne, pairs_of};
 ghost use Rattle.std.specs.Prelude.{◌≡◌, ◌×◌, IfOk};
 
 use faults::OutOfMemory;
-use faults::fault::{Fault, FaultKind};
+use faults::fault::FaultKind;
 use grid::pos::Pos;
 use grid::transform::{Axis, AxisFault, Grid};
-use reading::fault_lists::found::{Wanted, one};
+use reading::fault_lists::found::{Faults, Wanted, one};
 use reading::number::whole_number;
 use reading::parts::Part;
 use reading::parts::pairs::PairOf;
@@ -23,7 +23,7 @@ pub struct Coordinate {
 }
 
 #[tactic(auto, using(reading::proofs::FaultListsLemmas::Kept::one_none))]
-fn judge_number(alloc: Global, axis: &Axis, a: i64) -> Result<Vec<Fault>, OutOfMemory>
+fn judge_number(alloc: Global, axis: &Axis, a: i64) -> Faults
     ensures { IfOk result (λ fs. AtMostOne (axis_faults axis.now a) (pairs_of fs.items)) }
 {
     match axis.to_grid(a) {
@@ -52,12 +52,7 @@ impl Part for Coordinate {
     ghost means = { λ p d n. (n ≡ grid_number p.axis d) × IsGridNumber n };
 
     #[tactic(auto, using(reading::proofs::FaultListsLemmas::Wholes::found_leaf))]
-    fn judge(
-        &self,
-        alloc: Global,
-        wanted: Wanted,
-        value: &Value,
-    ) -> Result<Vec<Fault>, OutOfMemory> {
+    fn judge(&self, alloc: Global, wanted: Wanted, value: &Value) -> Faults {
         match whole_number(value) {
             Ok(a) => Ok(judge_number(alloc, &self.axis, a)?),
             Err(kind) => Ok(one(alloc, kind)?),
@@ -99,12 +94,7 @@ impl Part for Position {
 
     ghost means = { λ p d x. x ≡ position_of p.grid d };
 
-    fn judge(
-        &self,
-        alloc: Global,
-        wanted: Wanted,
-        value: &Value,
-    ) -> Result<Vec<Fault>, OutOfMemory> {
+    fn judge(&self, alloc: Global, wanted: Wanted, value: &Value) -> Faults {
         self.elements().judge(alloc, wanted, value)
     }
 

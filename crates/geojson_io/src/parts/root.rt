@@ -9,8 +9,8 @@ use crate::parts::feature::{FeatureElement, FeatureMembers};
 use crate::parts::geometry::TypedGeometry;
 use crate::parts::position::Position;
 use faults::OutOfMemory;
-use faults::fault::{Fault, FaultKind};
-use reading::fault_lists::found::{Wanted, one};
+use faults::fault::FaultKind;
+use reading::fault_lists::found::{Faults, Wanted, one};
 use reading::fault_lists::types::type_fault;
 use reading::geometry::GeometryType;
 use reading::part::type_name;
@@ -75,15 +75,6 @@ fn refuse_shape(_shape: Shape) -> Result<Feature, OutOfMemory> {
     Err(OutOfMemory)
 }
 
-// A list of one feature.
-fn only(alloc: Global, feature: Feature) -> Result<Vec<Feature>, OutOfMemory>
-    ensures { IfOk result (λ fs. fs.items ≡ feature ∷ []) }
-{
-    let mut found = Vec::new(alloc);
-    found.push(feature)?;
-    Ok(found)
-}
-
 /// The root of a text, which stands for its features.
 #[derive(Clone, Copy)]
 pub struct RootFeatures {
@@ -105,13 +96,7 @@ impl RootFeatures {
         }
     }
 
-    fn judge_as(
-        &self,
-        alloc: Global,
-        wanted: Wanted,
-        root: Root,
-        value: &Value,
-    ) -> Result<Vec<Fault>, OutOfMemory>
+    fn judge_as(&self, alloc: Global, wanted: Wanted, root: Root, value: &Value) -> Faults
         ensures { IfOk result (λ fs. AreFound wanted (root_faults self.now.position.grid (view value.now) root) (pairs_of fs.items)) }
     {
         let position = self.position;
@@ -122,12 +107,7 @@ impl RootFeatures {
         }
     }
 
-    fn make_as(
-        &self,
-        alloc: Global,
-        root: Root,
-        value: &Value,
-    ) -> Result<Vec<Feature>, OutOfMemory>
+    fn make_as(&self, alloc: Global, root: Root, value: &Value) -> Result<Vec<Feature>, OutOfMemory>
         requires { root_faults self.now.position.grid (view value.now) root ≡ [] }
         ensures { IfOk result (λ fs. map plain fs.items ≡ features_by self.now.position.grid (view value.now) (Ok root)) }
     {
@@ -139,12 +119,12 @@ impl RootFeatures {
             }
             Root::Feature => {
                 let feature = FeatureMembers { position }.make(alloc, value)?;
-                only(alloc, feature)
+                Ok(vec![in alloc; feature]?)
             }
             Root::Geometry(kind) => {
                 let shape = TypedGeometry { position, kind }.make(alloc, value)?;
                 let feature = bare_feature(alloc, shape)?;
-                only(alloc, feature)
+                Ok(vec![in alloc; feature]?)
             }
         }
     }
@@ -158,12 +138,7 @@ impl Part for RootFeatures {
     ghost means = { λ p d fs. map plain fs.items ≡ features_of p.position.grid d };
 
     #[tactic(auto, using(reading::proofs::FaultListsLemmas::Wholes::found_leaf))]
-    fn judge(
-        &self,
-        alloc: Global,
-        wanted: Wanted,
-        value: &Value,
-    ) -> Result<Vec<Fault>, OutOfMemory> {
+    fn judge(&self, alloc: Global, wanted: Wanted, value: &Value) -> Faults {
         if !value.is_object() {
             return Ok(one(alloc, FaultKind::WrongKind)?);
         }

@@ -4,11 +4,9 @@ ghost use Rattle.reading.specs.Info.{info_faults};
 ghost use Rattle.serde_json.specs.View.{view};
 ghost use Rattle.std.specs.Prelude.{IfOk};
 
-use crate::fault_lists::found::Wanted;
+use crate::fault_lists::found::{Faults, Wanted};
 use crate::info::Info;
 use crate::parts::part::Part;
-use faults::OutOfMemory;
-use faults::fault::Fault;
 use serde_json::Value;
 use std::alloc::Global;
 
@@ -16,7 +14,7 @@ use std::alloc::Global;
 ///
 /// # Errors
 /// Where memory is refused.
-pub fn judge_info(alloc: Global, wanted: Wanted, value: &Value) -> Result<Vec<Fault>, OutOfMemory>
+pub fn judge_info(alloc: Global, wanted: Wanted, value: &Value) -> Faults
     ensures { IfOk result (λ fs. AreFound wanted (info_faults (view value.now)) (pairs_of fs.items)) }
 {
     Info.judge(alloc, wanted, value)

@@ -4,10 +4,9 @@ ghost use Rattle.reading.specs.Parts.{member_faults, each_member_faults};
 ghost use Rattle.serde_json.specs.View.{view, members_view};
 ghost use Rattle.std.specs.Prelude.{IfOk};
 
-use crate::fault_lists::found::{Wanted, is_enough, one, put_under_name, under_name};
+use crate::fault_lists::found::{Faults, Wanted, is_enough, one, put_under_name, under_name};
 use crate::fault_lists::judge::Judge;
-use faults::OutOfMemory;
-use faults::fault::{Fault, FaultKind};
+use faults::fault::FaultKind;
 use serde_json::{Map, Value};
 use std::alloc::Global;
 
@@ -22,7 +21,7 @@ pub fn judge_member<J: Judge>(
     of: &J,
     value: &Value,
     member: &str,
-) -> Result<Vec<Fault>, OutOfMemory>
+) -> Faults
     ensures { IfOk result (λ fs. AreFound wanted (member_faults member.now (J.faults of.now) (view value.now)) (pairs_of fs.items)) }
 {
     match value.get(member) {
@@ -49,7 +48,7 @@ pub fn judge_each_member<J: Judge>(
     wanted: Wanted,
     of: &J,
     members: &Map<String, Value>,
-) -> Result<Vec<Fault>, OutOfMemory>
+) -> Faults
     ensures { IfOk result (λ fs. AreFound wanted (each_member_faults (J.faults of.now) (members_view members.now.entries)) (pairs_of fs.items)) }
 {
     let mut found = Vec::new(alloc);

@@ -1,27 +1,16 @@
 //! Arrays of parts.
-ghost use Rattle.reading.specs.Parts.{each_faults, elements as elements_in, list_faults};
+ghost use Rattle.reading.specs.Parts.{each_faults, elements, list_faults};
 ghost use Rattle.serde_json.specs.View.{view};
 ghost use Rattle.std.specs.List.{AllZip};
 ghost use Rattle.std.specs.Prelude.{◌≡◌, [], map, IfOk};
 
-use crate::fault_lists::found::Wanted;
+use crate::fault_lists::found::{Faults, Wanted};
 use crate::fault_lists::judge::judge_list;
 use crate::parts::part::Part;
 use faults::OutOfMemory;
-use faults::fault::Fault;
 use lines::items::Items;
 use serde_json::Value;
 use std::alloc::Global;
-
-/// The elements of an array, none where the value is no array.
-pub fn elements(value: &Value) -> &[Value]
-    ensures { map view result.now ≡ elements_in (view value.now) }
-{
-    match value.as_array() {
-        Some(items) => items.as_slice(),
-        None => &[],
-    }
-}
 
 // What each of the values means.
 fn make_each<P: Part>(
@@ -33,7 +22,7 @@ fn make_each<P: Part>(
     ensures { IfOk result (λ xs. AllZip (P.means of.now) (map view values.now) xs) }
 {
     let mut found = Vec::with_capacity(alloc, values.len())?;
-    for value in values.iter() {
+    for value in values {
         let made = of.make(alloc, value)?;
         found.push(made)?;
     }
@@ -51,18 +40,16 @@ impl<P: Part> Part for ListOf<P> {
 
     ghost faults = { λ p. list_faults (P.faults p.of) };
 
-    ghost means = { λ p d xs. AllZip (P.means p.of) (elements_in d) xs };
+    ghost means = { λ p d xs. AllZip (P.means p.of) (elements d) xs };
 
-    fn judge(
-        &self,
-        alloc: Global,
-        wanted: Wanted,
-        value: &Value,
-    ) -> Result<Vec<Fault>, OutOfMemory> {
+    fn judge(&self, alloc: Global, wanted: Wanted, value: &Value) -> Faults {
         judge_list(alloc, wanted, &self.of, value)
     }
 
     fn make(&self, alloc: Global, value: &Value) -> Result<Items<P::Made>, OutOfMemory> {
-        make_each(alloc, &self.of, elements(value))
+        match value.as_array() {
+            Some(items) => make_each(alloc, &self.of, items),
+            None => Ok(Items::from_vec(Vec::new(alloc))),
+        }
     }
 }

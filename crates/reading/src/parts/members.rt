@@ -4,11 +4,10 @@ ghost use Rattle.reading.specs.Parts.{member_faults, option_faults};
 ghost use Rattle.serde_json.specs.Find.{get};
 ghost use Rattle.std.specs.Prelude.{◌≡◌, [], IfOk, MatchOption, None};
 
-use crate::fault_lists::found::{Wanted, under_name};
+use crate::fault_lists::found::{Faults, Wanted, under_name};
 use crate::fault_lists::members::judge_member;
 use crate::parts::part::Part;
 use faults::OutOfMemory;
-use faults::fault::Fault;
 use serde_json::Value;
 use std::alloc::Global;
 
@@ -26,12 +25,7 @@ impl<P: Part> Part for MemberOf<P> {
 
     ghost means = { λ p d. P.means p.of (member_or_null p.name.now d) };
 
-    fn judge(
-        &self,
-        alloc: Global,
-        wanted: Wanted,
-        value: &Value,
-    ) -> Result<Vec<Fault>, OutOfMemory> {
+    fn judge(&self, alloc: Global, wanted: Wanted, value: &Value) -> Faults {
         judge_member(alloc, wanted, &self.of, value, self.name)
     }
 
@@ -58,12 +52,7 @@ impl<P: Part> Part for OptionOf<P> {
     ghost means = { λ p d o. MatchOption o (get p.name.now d ≡ None) (λ x. P.means p.of (member_or_null p.name.now d) x) };
 
     #[tactic(auto, using(crate::proofs::FaultListsLemmas::Wholes::option_none, crate::proofs::FaultListsLemmas::Wholes::option_some))]
-    fn judge(
-        &self,
-        alloc: Global,
-        wanted: Wanted,
-        value: &Value,
-    ) -> Result<Vec<Fault>, OutOfMemory> {
+    fn judge(&self, alloc: Global, wanted: Wanted, value: &Value) -> Faults {
         match value.get(self.name) {
             None => Ok(Vec::new(alloc)),
             Some(there) => {

@@ -1,13 +1,11 @@
 //! Two parts: the elements of an array, or two of one value.
-ghost use Rattle.reading.specs.Parts.{IsPair, elements as elements_in, pair_faults};
+ghost use Rattle.reading.specs.Parts.{IsPair, elements, pair_faults};
 ghost use Rattle.std.specs.Prelude.{◌≡◌, ◌++◌, ◌×◌, [], IfOk};
 
-use crate::fault_lists::found::{Wanted, is_enough, join};
+use crate::fault_lists::found::{Faults, Wanted, is_enough, join};
 use crate::fault_lists::judge::judge_pair;
-use crate::parts::lists::elements;
 use crate::parts::part::Part;
 use faults::OutOfMemory;
-use faults::fault::Fault;
 use serde_json::Value;
 use std::alloc::Global;
 
@@ -23,19 +21,16 @@ impl<P: Part, Q: Part> Part for PairOf<P, Q> {
 
     ghost faults = { λ p. pair_faults (P.faults p.first) (Q.faults p.second) };
 
-    ghost means = { λ p d x. IsPair (P.means p.first) (Q.means p.second) (elements_in d) x.0 x.1 };
+    ghost means = { λ p d x. IsPair (P.means p.first) (Q.means p.second) (elements d) x.0 x.1 };
 
-    fn judge(
-        &self,
-        alloc: Global,
-        wanted: Wanted,
-        value: &Value,
-    ) -> Result<Vec<Fault>, OutOfMemory> {
+    fn judge(&self, alloc: Global, wanted: Wanted, value: &Value) -> Faults {
         judge_pair(alloc, wanted, &self.first, &self.second, value)
     }
 
     fn make(&self, alloc: Global, value: &Value) -> Result<(P::Made, Q::Made), OutOfMemory> {
-        let values = elements(value);
+        let Some(values) = value.as_array() else {
+            unreachable!()
+        };
         let first = self.first.make(alloc, &values[0])?;
         let second = self.second.make(alloc, &values[1])?;
         Ok((first, second))
@@ -57,12 +52,7 @@ impl<P: Part, Q: Part> Part for Both<P, Q> {
     ghost means = { λ p d x. P.means p.first d x.0 × Q.means p.second d x.1 };
 
     #[tactic(auto, using(crate::proofs::FaultListsLemmas::Kept::found_enough))]
-    fn judge(
-        &self,
-        alloc: Global,
-        wanted: Wanted,
-        value: &Value,
-    ) -> Result<Vec<Fault>, OutOfMemory> {
+    fn judge(&self, alloc: Global, wanted: Wanted, value: &Value) -> Faults {
         let first = self.first.judge(alloc, wanted, value)?;
         if is_enough(wanted, &first) {
             return Ok(first);

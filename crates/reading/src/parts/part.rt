@@ -7,7 +7,7 @@ ghost use Rattle.serde_json.specs.Data.{Data};
 ghost use Rattle.serde_json.specs.View.{view};
 ghost use Rattle.std.specs.Prelude.{◌≡◌, [], List, IfOk, IfErr, OnOk};
 
-use crate::fault_lists::found::{Wanted, first_or_none};
+use crate::fault_lists::found::{Faults, Wanted, first_or_none};
 use faults::OutOfMemory;
 use faults::fault::{Fault, FaultKind};
 use serde_json::Value;
@@ -23,7 +23,7 @@ pub trait Part {
     ghost means: { Self → Data → Self.Made → Type 0 };
 
     /// The value's faults, or the first of them, with their paths from this value.
-    fn judge(&self, alloc: Global, wanted: Wanted, value: &Value) -> Result<Vec<Fault>, OutOfMemory>
+    fn judge(&self, alloc: Global, wanted: Wanted, value: &Value) -> Faults
         ensures { IfOk result (λ fs. AreFound wanted (faults self.now (view value.now)) (pairs_of fs.items)) };
 
     /// What the value means, which has no faults.

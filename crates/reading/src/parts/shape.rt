@@ -2,12 +2,11 @@
 ghost use Rattle.reading.specs.Shapes.{IsFormOf, shape_faults};
 ghost use Rattle.std.specs.Prelude.{◌≡◌, [], IfOk};
 
-use crate::fault_lists::found::Wanted;
+use crate::fault_lists::found::{Faults, Wanted};
 use crate::geometry::GeometryType;
 use crate::parts::lists::ListOf;
 use crate::parts::part::Part;
 use faults::OutOfMemory;
-use faults::fault::Fault;
 use grid::pos::Pos;
 use serde_json::Value;
 use shapes::form::Form;
@@ -29,12 +28,7 @@ impl<P: Part<Made = Pos>, L: Part, R: Part> Part for ShapeOf<P, L, R> {
 
     ghost means = { λ p. IsFormOf (P.means p.positions.of) (L.means p.lines.of) (R.means p.polygons.of.of) p.kind };
 
-    fn judge(
-        &self,
-        alloc: Global,
-        wanted: Wanted,
-        value: &Value,
-    ) -> Result<Vec<Fault>, OutOfMemory> {
+    fn judge(&self, alloc: Global, wanted: Wanted, value: &Value) -> Faults {
         match self.kind {
             GeometryType::Point => self.positions.of.judge(alloc, wanted, value),
             GeometryType::MultiPoint => self.positions.judge(alloc, wanted, value),
