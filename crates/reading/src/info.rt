@@ -119,22 +119,16 @@ impl Part for Properties {
 #[derive(Clone, Copy)]
 pub struct Info;
 
-// The two members, in their order.
-fn members() -> Both<OptionOf<Ids>, OptionOf<Properties>>
-    ensures id { result.first.name.now ≡ codes "id" }
-    ensures properties { result.second.name.now ≡ codes "properties" }
-{
-    Both {
-        first: OptionOf {
-            name: "id",
-            of: Ids,
-        },
-        second: OptionOf {
-            name: "properties",
-            of: Properties,
-        },
-    }
-}
+const MEMBERS: Both<OptionOf<Ids>, OptionOf<Properties>> = Both {
+    first: OptionOf {
+        name: "id",
+        of: Ids,
+    },
+    second: OptionOf {
+        name: "properties",
+        of: Properties,
+    },
+};
 
 impl Part for Info {
     type Made = (Id, Props);
@@ -144,11 +138,11 @@ impl Part for Info {
     ghost means = { λ _ d x. IsInfoOf d x.0 x.1 };
 
     fn judge(&self, alloc: Global, wanted: Wanted, value: &Value) -> Faults {
-        members().judge(alloc, wanted, value)
+        MEMBERS.judge(alloc, wanted, value)
     }
 
     fn make(&self, alloc: Global, value: &Value) -> Result<(Id, Props), OutOfMemory> {
-        let (id, props) = members().make(alloc, value)?;
+        let (id, props) = MEMBERS.make(alloc, value)?;
         let id = id.unwrap_or(Id::None);
         match props {
             Some(props) => Ok((id, props)),

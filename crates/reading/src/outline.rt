@@ -9,7 +9,6 @@ ghost use Rattle.reading.specs.Fault.{LeastOrWant};
 ghost use Rattle.reading.specs.Outlines.{outline_kind, outline_faults, line_of, ring_of};
 ghost use Rattle.std.specs.Prelude.{◌≡◌, ◌≢◌, [], List, Option, Some, None, IfOk, IfErr, OnOk};
 
-use faults::OutOfMemory;
 use faults::fault::{Fault, FaultKind};
 use grid::pos::Pos;
 use lines::line::Line;
@@ -79,16 +78,5 @@ pub fn read_outline<O: Outline>(alloc: Global, positions: Vec<Pos>) -> Result<O,
     match O::from_list(alloc, positions) {
         Ok(outline) => Ok(outline),
         Err(fault) => Err(Fault::here(alloc, kind_of(fault))),
-    }
-}
-
-/// The line or ring of a list of positions that is one. It is refused where memory is, and nowhere else.
-pub fn make_outline<O: Outline>(alloc: Global, positions: Vec<Pos>) -> Result<O, OutOfMemory>
-    requires { outline_faults (O.fault positions.items) ≡ [] }
-    ensures { IfOk result (λ made. O.seen made ≡ O.of positions.items) }
-{
-    match O::from_list(alloc, positions) {
-        Ok(outline) => Ok(outline),
-        Err(_) => Err(OutOfMemory),
     }
 }

@@ -8,7 +8,7 @@ use crate::parts::position::Position;
 use faults::OutOfMemory;
 use reading::fault_lists::found::{Faults, Wanted};
 use reading::fault_lists::shape::judge_outline;
-use reading::outline::{Outline, make_outline};
+use reading::outline::Outline;
 use reading::parts::Part;
 use reading::parts::lists::ListOf;
 use serde_json::Value;
@@ -52,9 +52,13 @@ impl<O: Outline> Part for OutlineOf<O> {
         Ok(judge_outline::<O>(alloc, made.into_vec())?)
     }
 
+    // A list without faults is refused where memory is, and nowhere else.
     fn make(&self, alloc: Global, value: &Value) -> Result<O, OutOfMemory> {
         let positions = ListOf { of: self.position };
         let made = positions.make(alloc, value)?;
-        make_outline(alloc, made.into_vec())
+        match O::from_list(alloc, made.into_vec()) {
+            Ok(outline) => Ok(outline),
+            Err(_) => Err(OutOfMemory),
+        }
     }
 }

@@ -3,7 +3,7 @@ ghost use Rattle.geojson_io.specs.Positions.{axis_faults, coordinate_faults, gri
 ghost use Rattle.grid.specs.Computed.{axis_number};
 ghost use Rattle.grid.specs.Place.{IsGridNumber};
 ghost use Rattle.reading.specs.FaultLists.Found.{AtMostOne, pairs_of};
-ghost use Rattle.std.specs.Prelude.{◌≡◌, ◌×◌, IfOk};
+ghost use Rattle.std.specs.Prelude.{◌≡◌, IfOk};
 
 use faults::OutOfMemory;
 use faults::fault::FaultKind;

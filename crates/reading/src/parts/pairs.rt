@@ -1,6 +1,6 @@
 //! Two parts: the elements of an array, or two of one value.
 ghost use Rattle.reading.specs.Parts.{IsPair, elements, pair_faults};
-ghost use Rattle.std.specs.Prelude.{◌≡◌, ◌++◌, ◌×◌, [], IfOk};
+ghost use Rattle.std.specs.Prelude.{◌≡◌, ◌++◌, [], IfOk};
 
 use crate::fault_lists::found::{Faults, Wanted, is_enough, join};
 use crate::fault_lists::judge::judge_pair;

@@ -32,17 +32,6 @@ pub trait Part {
         ensures { IfOk result (means self.now (view value.now)) };
 }
 
-// Whether a value has no faults, else the first.
-fn first_fault<P: Part>(alloc: Global, part: &P, value: &Value) -> Result<(), Fault>
-    ensures ok { OnOk result (P.faults part.now (view value.now) ≡ []) }
-    ensures err { IfErr result (λ f. IsAscending (P.faults part.now (view value.now)) → LeastOrWant (P.faults part.now (view value.now)) f) }
-{
-    match part.judge(alloc, Wanted::First, value) {
-        Ok(found) => first_or_none(found),
-        Err(OutOfMemory) => Err(Fault::here(alloc, FaultKind::OutOfMemory)),
-    }
-}
-
 /// What a value means, or its first fault: it is judged, and then made.
 ///
 /// # Errors
@@ -52,9 +41,14 @@ pub fn read_value<P: Part>(alloc: Global, part: &P, value: &Value) -> Result<P::
     ensures made { IfOk result (P.means part.now (view value.now)) }
     ensures err { IfErr result (λ f. IsAscending (P.faults part.now (view value.now)) → LeastOrWant (P.faults part.now (view value.now)) f) }
 {
-    first_fault(alloc, part, value)?;
-    match part.make(alloc, value) {
-        Ok(made) => Ok(made),
+    match part.judge(alloc, Wanted::First, value) {
+        Ok(found) => match first_or_none(found) {
+            Ok(()) => match part.make(alloc, value) {
+                Ok(made) => Ok(made),
+                Err(OutOfMemory) => Err(Fault::here(alloc, FaultKind::OutOfMemory)),
+            },
+            Err(fault) => Err(fault),
+        },
         Err(OutOfMemory) => Err(Fault::here(alloc, FaultKind::OutOfMemory)),
     }
 }
