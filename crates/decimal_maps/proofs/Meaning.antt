@@ -8,7 +8,7 @@ use Rattle.json.specs.Find.{get_member}
 use Rattle.json.specs.declared.value.Value.{Value}
 use Rattle.attributes.specs.Attributes.{seen_member}
 use Rattle.fixing.specs.Forms.{RawShape}
-use Rattle.decimal_maps.specs.Arrays.{ArrayMeans, ItemsMean}
+use Rattle.json_parts.specs.Arrays.{ArrayMeans, ItemsMean}
 use Rattle.decimal_maps.specs.Geometries.{AreShapes, IsCollection, IsSimple}
 use Rattle.decimal_maps.specs.Members.{AreCounted, AreSimple, IsCountedGeometry, IsKind, IsValue, KnowsGeometry, KnowsMember, KnowsParts, KnowsSimple, lookup_of}
 use Rattle.decimal_maps.specs.Reads.{then_member}
