@@ -35,7 +35,7 @@ pub struct RawFeature {
 }
 
 /// A member of features.
-pub type FeatureMember<P> = Member<OfType<Kind, P>>;
+pub type FeatureMember<P> = Member<'static, OfType<Kind, P>>;
 
 /// The members of a feature other than its type.
 pub type FeatureParts =

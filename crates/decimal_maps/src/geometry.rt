@@ -28,10 +28,10 @@ use json_parts::stop::Stop;
 use std::alloc::Global;
 
 /// The member `geometries`, none of which is a collection, with what is counted behind them.
-pub type GeometriesMember = Member<OfType<Kind, Counted<ListOf<SimpleGeometry>, Tally>>>;
+pub type GeometriesMember = Member<'static, OfType<Kind, Counted<ListOf<SimpleGeometry>, Tally>>>;
 
 /// The members of a geometry of any type other than the type.
-pub type GeometryMembers = Both<Member<Coordinates>, GeometriesMember>;
+pub type GeometryMembers = Both<Member<'static, Coordinates>, GeometriesMember>;
 
 /// What was read of these.
 pub type GeometryFound = (Lookup<(Nested<Pos>, Tally)>, Lookup<(Items<RawShape>, Tally)>);

@@ -27,7 +27,7 @@ use std::alloc::Global;
 const MAX_DEPTH: usize = 128;
 
 /// The member `features`.
-pub type FeaturesMember<'r> = Member<OfType<Kind, ListOf<MapRules<'r>>>>;
+pub type FeaturesMember<'r> = Member<'static, OfType<Kind, ListOf<MapRules<'r>>>>;
 
 /// The members that any root has.
 pub type RootMembers<'r> = Both<GeometryMembers, Both<FeaturesMember<'r>, FeatureParts>>;

@@ -26,7 +26,7 @@ use reading::geometry::GeometryType;
 use std::alloc::Global;
 
 /// The member `coordinates`.
-pub fn coordinates_member(grid: &DecimalGrid, counted: Tally) -> Member<Coordinates> {
+pub fn coordinates_member(grid: &DecimalGrid, counted: Tally) -> Member<'static, Coordinates> {
     Member {
         name: "coordinates",
         part: Coordinates {
@@ -139,7 +139,7 @@ impl<'t> FromTokens<'t> for SimpleGeometry {
     ) -> Result<RawShape, Stop> {
         let member = coordinates_member(&self.grid, *count);
         let (kind, coordinates) =
-            read_object::<AnyJson, Kind, Member<Coordinates>>(alloc, &member, reader, depth)?;
+            read_object::<AnyJson, Kind, Member<'_, Coordinates>>(alloc, &member, reader, depth)?;
         let (shape, tally) = simple_of(alloc, kind, coordinates)?;
         *count = tally;
         Ok(shape)

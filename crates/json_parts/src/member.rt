@@ -12,12 +12,12 @@ use std::alloc::Global;
 
 /// A member, which is read by its part.
 #[derive(Clone, Copy)]
-pub struct Member<P> {
-    pub name: &'static str,
+pub struct Member<'n, P> {
+    pub name: &'n str,
     pub part: P,
 }
 
-impl<'t, S: Skip, T, P: ReadMember<'t, S, T>> ReadMembers<'t, S, T> for Member<P> {
+impl<'n, 't, S: Skip, T, P: ReadMember<'t, S, T>> ReadMembers<'t, S, T> for Member<'n, P> {
     type Found = Lookup<P::Made>;
 
     ghost names = { λ m. m.name.now ∷ [] };

@@ -36,7 +36,7 @@ use shapes::shape::{Id, Shape};
 use std::alloc::Global;
 
 /// A member of features.
-pub type FeatureMember<P> = Member<OfType<Root, P>>;
+pub type FeatureMember<P> = Member<'static, OfType<Root, P>>;
 
 /// The members of a feature other than its type.
 pub type FeatureParts =

@@ -28,7 +28,7 @@ use shapes::shape::Shape;
 use std::alloc::Global;
 
 /// The member `coordinates`.
-pub fn coordinates_member(position: &Position) -> Member<Coordinates>
+pub fn coordinates_member(position: &Position) -> Member<'static, Coordinates>
     ensures name { result.name.now ≡ codes "coordinates" }
     ensures part { result.part.position ≡ position.now }
 {
@@ -75,7 +75,7 @@ impl<'t> FromTokens<'t> for GeometryOrNull {
         _count: &mut (),
     ) -> Result<Shape, Stop> {
         let member = coordinates_member(&self.position);
-        match read_object_or_null::<SerdeJson, Root, Member<Coordinates>>(alloc, &member, reader, depth)? {
+        match read_object_or_null::<SerdeJson, Root, Member<'_, Coordinates>>(alloc, &member, reader, depth)? {
             Some((kind, coordinates)) => shape_of_members(alloc, kind, coordinates),
             None => Ok(Shape::Null),
         }

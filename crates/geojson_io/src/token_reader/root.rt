@@ -29,10 +29,10 @@ use shapes::feature::Feature;
 use std::alloc::Global;
 
 /// The member `features`.
-pub type FeaturesMember = Member<OfType<Root, ListOf<FeatureElement>>>;
+pub type FeaturesMember = Member<'static, OfType<Root, ListOf<FeatureElement>>>;
 
 /// The members that any root has.
-pub type RootMembers = Both<Member<Coordinates>, Both<FeaturesMember, FeatureParts>>;
+pub type RootMembers = Both<Member<'static, Coordinates>, Both<FeaturesMember, FeatureParts>>;
 
 /// What was read of these.
 pub type RootFound = (Lookup<Nested<Pos>>, (Lookup<Items<Feature>>, PartsFound));
