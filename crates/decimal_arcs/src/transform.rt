@@ -135,7 +135,6 @@ fn judge_fits(alloc: Global, texts: Texts<'_>, others: Texts<'_>) -> Result<Vec<
     Ok(found)
 }
 
-#[tactic(none)]
 fn judge_limits(alloc: Global, value: &Value<'_>) -> Result<Vec<Fault>, OutOfMemory>
     ensures { IfOk result (λ fs. pairs_of fs.items ≡ limit_faults (texts_of (codes "scale") (value_view value.now)) (texts_of (codes "translate") (value_view value.now))) }
 {

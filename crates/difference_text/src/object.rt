@@ -136,7 +136,6 @@ struct IdsAt<'a>(LayerView<'a>, &'a FeatureChange);
 impl<'a> Written for IdsAt<'a> {
     ghost text = { λ i. ids_at (slice_get i.0.olds.now i.1.now.old) (slice_get i.0.news.now i.1.now.new) };
 
-    #[tactic(none)]
     fn write<W: Sink>(&self, sink: &mut W) -> Result<(), WriteFault> {
         match self.0.olds.get(self.1.old) {
             Some(old) => match self.0.news.get(self.1.new) {
@@ -193,7 +192,6 @@ struct GeometryMember<'a>(LayerView<'a>, &'a FeatureChange);
 impl<'a> Written for GeometryMember<'a> {
     ghost text = { λ g. geometry_member g.1.now.geometry (slice_get g.0.olds.now g.1.now.old) (slice_get g.0.news.now g.1.now.new) };
 
-    #[tactic(none)]
     fn write<W: Sink>(&self, sink: &mut W) -> Result<(), WriteFault> {
         match self.1.geometry {
             Some(change) => match self.0.olds.get(self.1.old) {

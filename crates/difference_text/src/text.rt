@@ -220,7 +220,6 @@ struct ChangeLines<'a>(LayerView<'a>);
 impl<'a> Notation<FeatureChange> for ChangeLines<'a> {
     ghost text = { λ l c. change_line (report_of l.0) c };
 
-    #[tactic(none)]
     fn write_value<W: Sink>(&self, value: &FeatureChange, sink: &mut W) -> Result<(), WriteFault> {
         match self.0.olds.get(value.old) {
             Some(old) => match self.0.news.get(value.new) {

@@ -40,7 +40,6 @@ fn join_last<S: Shard>(alloc: Global, made: &mut Vec<S>) -> Result<(), JoinFault
 
 // The join of the shards at the leaves, in the plan's grouping. What is left to do and the shards made so far
 // are two stacks on the heap.
-#[tactic(none)]
 fn join_leaves<S: Shard>(
     alloc: Global,
     shards: &[S],

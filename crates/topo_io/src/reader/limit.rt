@@ -66,7 +66,6 @@ impl Part for DeltaNumber {
 
     ghost means = { λ p d n. (moved (Some p.from) d ≡ Some n) × IsGridNumber n };
 
-    #[tactic(none)]
     fn read(&self, alloc: Global, value: &Value) -> Result<i64, Fault> {
         match whole_number(value) {
             Ok(a) => sum_within(alloc, &self.axis, self.from, a),

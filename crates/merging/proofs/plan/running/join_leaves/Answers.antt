@@ -1,23 +1,14 @@
-use Rattle.std.proofs.Common.{◌≡◌, ◌+◌, ◌*◌, ◌∷◌, [], ◌++◌, All, length, sym, ◌∙◌, ap, subst, arith}
+use Rattle.std.proofs.Common.{◌≡◌, ◌∷◌, [], ◌++◌, length, sym, ◌∙◌, ap, subst}
 use Rattle.std.specs.Prelude.{reverse}
 use Rattle.std.proofs.lemmas.Result.{err_from_is_err_and}
 use Rattle.std.proofs.lemmas.List.Elements.{All-push, All-pop}
-use Rattle.std.proofs.lemmas.List.Sums.{sum_by_push}
-use Rattle.std.specs.List.{sum_by}
 use Rattle.std.specs.Prelude.{Some}
 use Rattle.merging.specs.declared.plan.Plan.TheVariants.{Leaf}
 use Rattle.merging.specs.declared.plan.running.Task.TheVariants.{Run, Join}
 use Rattle.merging.specs.Leaves.{leaves, HasIndexes}
 use Rattle.merging.proofs.PlanLemmas.{union_at_one}
-use Rattle.merging.proofs.PlanSizes.{size}
-use Rattle.merging.proofs.RunLemmas.{all_left, last_made, leaf_index, leaf_made, one_made, parts_left, taken, task_size, two_made, two_joined}
+use Rattle.merging.proofs.RunLemmas.{taken, leaf_index, leaf_made, parts_left, two_made, two_joined}
 use Rattle.merging.proofs.plan.running.join_leaves.Goals as goal
-
-pub loop-task-init : goal.loop-task-init
-loop-task-init g c = record {
-  left = all_left g.S.Shard.map_of c.args.shards.now c.args.plan c.new-tasks.result.items c.push.new.self.items c.new-made.result.items c.new-tasks.ensures.items c.in_ok-push.ensures.items c.new-made.ensures.items c.requires.indexes;
-  one_grid = subst (All (λ s. g.S.Shard.grid_of s ≡ c.args.grid)) (sym c.new-made.ensures.items) (λ k d lt. absurd (omega arith));
-}
 
 pub loop-task-preserved-in_ok-push-in-Leaf : goal.loop-task-preserved-in_ok-push-in-Leaf
 loop-task-preserved-in_ok-push-in-Leaf g c =
@@ -55,37 +46,6 @@ loop-task-preserved-in_ok-push-in-Node-3 g c =
           c.in_ok-push-in-Node.ensures.items c.in_ok-push-in-Node-2.ensures.items c.in_ok-push-in-Node-3.ensures.items;
       one_grid = c.loop-task.invariant.one_grid;
     }
-
-pub loop-task-smaller-in_ok-push-in-Leaf : goal.loop-task-smaller-in_ok-push-in-Leaf
-loop-task-smaller-in_ok-push-in-Leaf g c =
-    let left = c.pop.new.self.items in
-    let next : c.loop-task.tasks.items ≡ left ++ (Run c.in-Run.part ∷ []) = c.in-Some.ensures.items ∙ ap (λ t. left ++ (t ∷ [])) c.in-Run.is in
-    let whole : sum_by task_size c.loop-task.tasks.items ≡ sum_by task_size left + 2 * size c.in-Run.part.now = ap (sum_by task_size) next ∙ sum_by_push task_size left (Run c.in-Run.part) in
-    let one : size c.in-Run.part.now ≡ 1 = ap size c.in-Leaf.is in
-    omega arith
-
-pub loop-task-smaller-in_ok-push-in-Node-3 : goal.loop-task-smaller-in_ok-push-in-Node-3
-loop-task-smaller-in_ok-push-in-Node-3 g c =
-    let left = c.pop.new.self.items in
-    let r = c.in-Run.part in
-    let a = c.deref-in-Node.result in
-    let b = c.deref.result in
-    let next : c.loop-task.tasks.items ≡ left ++ (Run r ∷ []) = c.in-Some.ensures.items ∙ ap (λ t. left ++ (t ∷ [])) c.in-Run.is in
-    let whole : sum_by task_size c.loop-task.tasks.items ≡ sum_by task_size left + 2 * size r.now = ap (sum_by task_size) next ∙ sum_by_push task_size left (Run r) in
-    let parts : size r.now ≡ size a.now + size b.now + 1 = ap size c.in-Node.is ∙ (λ i. size (sym c.deref-in-Node.ensures i) + size (sym c.deref.ensures i) + 1) in
-    let one : sum_by task_size c.push-in-Node.new.self.items ≡ sum_by task_size left + 1 = ap (sum_by task_size) c.in_ok-push-in-Node.ensures.items ∙ sum_by_push task_size left Join in
-    let two : sum_by task_size c.push-in-Node-2.new.self.items ≡ sum_by task_size left + 1 + 2 * size b.now =
-    ap (sum_by task_size) c.in_ok-push-in-Node-2.ensures.items ∙ sum_by_push task_size c.push-in-Node.new.self.items (Run b) ∙ ap (λ n. n + 2 * size b.now) one in
-    let three : sum_by task_size c.push-in-Node-3.new.self.items ≡ sum_by task_size left + 1 + 2 * size b.now + 2 * size a.now =
-    ap (sum_by task_size) c.in_ok-push-in-Node-3.ensures.items ∙ sum_by_push task_size c.push-in-Node-2.new.self.items (Run a) ∙ ap (λ n. n + 2 * size a.now) two in
-    omega arith
-
-pub loop-task-smaller : goal.loop-task-smaller
-loop-task-smaller g c =
-    let left = c.pop.new.self.items in
-    let next : c.loop-task.tasks.items ≡ left ++ (Join ∷ []) = c.in-Some.ensures.items ∙ ap (λ t. left ++ (t ∷ [])) c.in-Join.is in
-    let whole : sum_by task_size c.loop-task.tasks.items ≡ sum_by task_size left + 1 = ap (sum_by task_size) next ∙ sum_by_push task_size left Join in
-    omega arith
 
 pub join_last-requires : goal.join_last-requires
 join_last-requires g c =
