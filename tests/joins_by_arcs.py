@@ -18,9 +18,9 @@ import sys
 
 TOP = os.path.dirname(os.path.dirname(os.path.abspath(__file__)))
 NAMED = {"refine": ["cut.rt", "cut_all.rt", "remove.rt"], "topo": ["stitching.rt", "order.rt"]}
-WHOLE = {"split_heal": [""], "topo": ["geometry_order", "layer_laws", "new_lists", "rewritten"]}
+WHOLE = {"split_heal": [""], "arcs": ["new_lists"], "topo": ["geometry_order", "layer_laws", "rewritten"]}
 
-CALLS = "expand|build|from_map|cut_line|cut_ring"
+CALLS = "expand|build|build_owned|from_map|cut_line|cut_ring"
 MAKES = re.compile(rf"\b({CALLS})\s*(::<[^>]*>)?\s*\(|::\s*({CALLS})\b|\bVisitIndex::of\b|[{{,]\s*({CALLS})\s*[,}}]")
 BRINGS = re.compile(r"(?:pub(?:\([a-z]+\))? )?use crate::([a-z_]+)(?:::[A-Za-z_{}, :]+)?;")
 OTHERS = re.compile(r"\bcrate::|\bself::|\bsuper::|^\s*(pub(\([a-z]+\))? )?mod\b")
@@ -34,8 +34,8 @@ WALKS = [
     ("refine/src/remove.rt", "    Topology::build(alloc, &grid, &map)"),
     ("topo/src/rewritten.rt", "    let both = left.expand(alloc)?.union(alloc, &right.expand(alloc)?)?;"),
     ("topo/src/rewritten.rt", "    Topology::build(alloc, left.grid(), &both)"),
-    ("topo/src/new_lists.rt", "use crate::building::build as made;"),
-    ("topo/src/new_lists.rt", "use chains::{ArcRef, cut_line, cut_ring};"),
+    ("topo/src/rewritten.rt", "use crate::building::build as made;"),
+    ("arcs/src/new_lists.rt", "use chains::{ArcRef, cut_line, cut_ring};"),
     ("split_heal/src/split.rt", "    let cuts = VisitIndex::of(alloc, &map)?;"),
     ("split_heal/src/healing.rt", "    cut_ring(alloc, &index, ring)"),
     ("topo/src/stitching.rt", "    topology.expand(alloc)"),

@@ -168,9 +168,9 @@ def lines_of_near(layers, steps, grid):
 
 
 def differ(one, other):
-    """Whether two features differ in the property."""
-    both = [it["properties"] for it in (one, other)]
-    return not all("p" in it for it in both) or compact(both[0]["p"]) != compact(both[1]["p"])
+    """Whether two features differ in the property; null counts as none."""
+    both = [it["properties"].get("p") for it in (one, other)]
+    return None in both or compact(both[0]) != compact(both[1])
 
 
 def dividing(features):

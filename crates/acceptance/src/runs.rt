@@ -93,7 +93,7 @@ impl Run {
         self.over_files(&mut files, out, err)
     }
 
-    /// The same over files of the caller's.
+    /// Runs the command over files and sinks of the caller's, and answers its status.
     pub fn over_files<F: Files, O: Sink, E: Sink>(
         &self,
         files: &mut F,

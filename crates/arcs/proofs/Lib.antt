@@ -13,6 +13,7 @@ pub mod Extents
 pub mod TurnedLists
 pub mod LeastUsed
 pub mod Backwards
+pub mod ReplacedArcs
 pub mod SetMarks
 pub mod EndsAlong
 pub mod Steps

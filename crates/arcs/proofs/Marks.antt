@@ -1,5 +1,5 @@
 -- Which arcs are free loops.
-use Rattle.std.proofs.Common.{◌≡◌, ℕ, zero, suc, Bool, true, false, List, [], ◌∷◌, map, inl, inr, refl, sym, ap, ◌∙◌, subst, Some, slice_get}
+use Rattle.std.proofs.Common.{◌≡◌, ℕ, zero, suc, Bool, true, false, List, [], ◌∷◌, ◌++◌, map, inl, inr, refl, sym, ap, ◌∙◌, subst, Some, slice_get}
 use Rattle.std.specs.List.Sorted.{IsPermutation}
 use Rattle.std.proofs.lemmas.List.Sorted.{IsPermutation-sym}
 use Rattle.std.specs.Option.{option_map}
@@ -7,7 +7,7 @@ use Rattle.std.specs.declared.cmp.Ordering.TheVariants.{Less}
 use Rattle.theory.specs.Arcs.{Ascends, AreSortedOnce}
 use Rattle.theory.specs.Chain.{Free}
 use Rattle.theory.specs.TopologyFunction.{keep}
-use Rattle.theory.specs.Lists.{Has}
+use Rattle.theory.specs.Lists.{Has, gathered}
 use Rattle.theory.proofs.Ascending.{less_self}
 use Rattle.theory.proofs.ListsOfLists.{Has-map, get_has, map_has}
 use Rattle.theory.proofs.Turning.{keep_has, has_keep}
@@ -18,13 +18,13 @@ use Rattle.lines.specs.Turned.{list_cmp}
 use Rattle.arcs.specs.Among.{Tells}
 use Rattle.arcs.specs.Pieces.{chain_of}
 use Rattle.arcs.specs.Arcs.{Arcs}
-use Rattle.arcs.specs.Stored.{positions_of, is_marked, stored_of, loops_of, rises, merged}
+use Rattle.arcs.specs.Stored.{positions_of, marked_positions, is_marked, stored_of, loops_of, rises, merged}
 use Rattle.arcs.specs.Table.{is_loop, is_loop_if, free_at, number_in, AreAlike, AreLoopsOf}
 use Rattle.arcs.specs.declared.piece.Piece.{Piece}
 use Rattle.arcs.specs.declared.stored.StoredArc.{StoredArc}
 use Rattle.lines.specs.Positions.{position_total, position_same}
 use Rattle.arcs.proofs.Merged.{Marked, marked_only, marked_there, merged_only, merged_there}
-use Rattle.arcs.proofs.Places.{any_has, has_any, place_of_member}
+use Rattle.arcs.proofs.Places.{any_has, has_any, index_of_member}
 use Rattle.arcs.proofs.Rising.{ascends_rising}
 use Rattle.lines.proofs.SortedLists.{Has-permutation}
 
@@ -68,11 +68,25 @@ get_mapped f (x ∷ l) zero = refl
 get_mapped f (x ∷ l) (suc n) = get_mapped f l n
 
 -- the answer of the code
-pub free_told : (l : List StoredArc) → rises (map positions_of l) ≡ true → (n : ℕ) (a : StoredArc) → slice_get l n ≡ Some a →
+pub free_means : (l : List StoredArc) → rises (map positions_of l) ≡ true → (n : ℕ) (a : StoredArc) → slice_get l n ≡ Some a →
     a.free ≡ is_loop_if (loops_of l) (slice_get (map positions_of l) n)
-free_told l r n a e =
+free_means l r n a e =
     mark_of l (ascends_rising (map positions_of l) r) a (get_has l n a e)
     ∙ ap (is_loop_if (loops_of l)) (sym (get_mapped positions_of l n ∙ ap (option_map positions_of) e))
+
+marks_means : (f : List Pos → Bool) (l : List StoredArc) → ((a : StoredArc) → Has a l → a.free ≡ f a.positions) →
+    map marked_positions l ≡ map (λ c. (c, f c)) (map positions_of l)
+marks_means f [] h = refl
+marks_means f (a ∷ l) h = λ i. (a.positions, h a (inl refl) i) ∷ marks_means f l (λ b k. h b (inr k)) i
+
+-- the marks of all arcs
+pub all_means : (l : List StoredArc) → rises (map positions_of l) ≡ true → map marked_positions l ≡ map (λ c. (c, is_loop (loops_of l) c)) (map positions_of l)
+all_means l r = marks_means (is_loop (loops_of l)) l (mark_of l (ascends_rising (map positions_of l) r))
+
+-- what is gathered of members that were made of others
+pub gathered_map : {A B C : Type 0} (f : B → List C) (g : A → B) (l : List A) → gathered f (map g l) ≡ gathered (λ x. f (g x)) l
+gathered_map f g [] = refl
+gathered_map f g (x ∷ l) = ap (λ w. f (g x) ++ w) (gathered_map f g l)
 
 -- the table of sorted pieces
 module _ (ps sorted : List Piece) (same : IsPermutation ps sorted) where
@@ -107,10 +121,10 @@ module _ (ps sorted : List Piece) (same : IsPermutation ps sorted) where
   }
 
 -- where pieces of one chain carry one mark, the arc of each is told so
-pub alike_told : (ps : List Piece) (t : Arcs) → ((c : List Pos) → Has c (map chain_of ps) → Has c t.arcs) → AreLoopsOf ps t.loops → AreAlike ps →
+pub alike_means : (ps : List Piece) (t : Arcs) → ((c : List Pos) → Has c (map chain_of ps) → Has c t.arcs) → AreLoopsOf ps t.loops → AreAlike ps →
     (p : Piece) → Has p ps → free_at t (number_in t.arcs p) ≡ p.free
-alike_told ps t arcs loops alike p h =
-    ap (is_loop_if t.loops) (place_of_member p.chain t.arcs (arcs p.chain (Has-map chain_of ps p h))) ∙ go p.free refl (is_loop t.loops p.chain) refl
+alike_means ps t arcs loops alike p h =
+    ap (is_loop_if t.loops) (index_of_member p.chain t.arcs (arcs p.chain (Has-map chain_of ps p h))) ∙ go p.free refl (is_loop t.loops p.chain) refl
   where
     go : (f : Bool) → p.free ≡ f → (b : Bool) → is_loop t.loops p.chain ≡ b → b ≡ f
     go true e true k = refl
@@ -123,8 +137,8 @@ alike_told ps t arcs loops alike p h =
 module _ (J : Pos → Type 0) (ps : List Piece) (t : Arcs)
     (good : (p : Piece) → Has p ps → Tells p.free (Free J p.chain))
     (loops : AreLoopsOf ps t.loops) (only : (c : List Pos) → Has c t.arcs → Has c (map chain_of ps)) where
-  told_loop : (c : List Pos) → Has c t.arcs → Tells (is_loop t.loops c) (Free J c)
-  told_loop c h = record {
+  if_loop : (c : List Pos) → Has c t.arcs → Tells (is_loop t.loops c) (Free J c)
+  if_loop c h = record {
     yes = λ f.
         let p = loops.only c (any_has c t.loops f) in
         subst (Free J) (sym p.2) ((good p.0 p.1).yes p.3);
@@ -140,4 +154,4 @@ module _ (J : Pos → Type 0) (ps : List Piece) (t : Arcs)
       marked p k e false g f free = (good p k).no g (subst (Free J) e free)
 
   pub all_marked : (n : ℕ) (c : List Pos) → slice_get t.arcs n ≡ Some c → Tells (free_at t n) (Free J c)
-  all_marked n c e = subst (λ w. Tells (is_loop_if t.loops w) (Free J c)) (sym e) (told_loop c (get_has t.arcs n c e))
+  all_marked n c e = subst (λ w. Tells (is_loop_if t.loops w) (Free J c)) (sym e) (if_loop c (get_has t.arcs n c e))

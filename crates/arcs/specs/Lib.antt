@@ -1,4 +1,5 @@
 pub mod Among
+pub mod ListRules
 pub mod Holding
 pub mod Extents
 pub mod Keys

@@ -19,6 +19,10 @@ positions_of a = a.positions
 abbrev pub is_marked : StoredArc → Bool
 is_marked a = a.free
 
+-- its positions, and whether it is marked
+abbrev pub marked_positions : StoredArc → List Pos × Bool
+marked_positions a = (a.positions, a.free)
+
 -- the chain of a piece, with its mark
 abbrev pub stored_of : Piece → StoredArc
 stored_of p = record { positions = p.chain; free = p.free }

@@ -46,6 +46,10 @@ is_loop_if loops (Some c) = is_loop loops c
 abbrev pub free_at : Arcs → ℕ → Bool
 free_at t n = is_loop_if t.loops (slice_get t.arcs n)
 
+-- each arc, and whether it is marked as a free loop
+abbrev pub with_loops : Arcs → List (List Pos × Bool)
+with_loops t = map (λ c. (c, is_loop t.loops c)) t.arcs
+
 -- the arcs that are marked; where a mark is missing, it is not set
 abbrev pub marked : List (List Pos) → List Bool → List (List Pos)
 marked [] marks = []

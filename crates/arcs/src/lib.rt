@@ -8,6 +8,7 @@ pub mod ends;
 mod key;
 pub mod marking;
 mod merging;
+pub mod new_lists;
 mod numbering;
 pub mod ordered;
 pub mod piece;
@@ -22,6 +23,7 @@ pub mod writing;
 
 pub use arc_marks::ArcMarks;
 pub use arcs_box::Extent;
+pub use new_lists::{HavePieces, NewLists, replace_arcs};
 pub use piece::Piece;
 pub use step::ArcStep;
 pub use table::{ArcRef, ArcTable};

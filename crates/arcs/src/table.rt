@@ -3,6 +3,7 @@ ghost use Rattle.arcs.specs.Extents.{within};
 ghost use Rattle.arcs.specs.Holding.{HoldAll};
 ghost use Rattle.arcs.specs.Pieces.{used, chain_of, piece_along};
 ghost use Rattle.arcs.specs.Placing.{whole_pieces};
+ghost use Rattle.arcs.specs.Table as spec;
 ghost use Rattle.arcs.specs.Table.{located, found_in, marked, number_in, free_at, AreAlike, AreLoopsOf, ArePiecesOfMap, IsTableOf};
 ghost use Rattle.arcs.specs.declared.piece.Piece.{Piece as Part};
 ghost use Rattle.grid.specs.declared.pos.Pos.{Pos};
@@ -20,7 +21,7 @@ use crate::numbering::{numbered_arcs, with_places};
 use crate::ordered::{is_rising, marked_arcs};
 use crate::piece::Piece;
 use crate::stored::ArcList;
-use crate::table_arcs::TableArcs;
+use crate::table_arcs::{ArcsWithLoops, TableArcs};
 use faults::OutOfMemory;
 use grid::pos::Pos;
 use lines::copying::CopyIn;
@@ -197,6 +198,14 @@ impl ArcTable {
         ensures small { length result < 2 ^ 63 }
     {
         TableArcs::of(self.arcs.as_slice())
+    }
+
+    /// The arcs, in the order of their numbers, each with whether it is a free loop.
+    pub fn with_loops(&self) -> ArcsWithLoops<'_>
+        ensures arcs { result ≡ spec.with_loops self.now }
+        ensures small { length result < 2 ^ 63 }
+    {
+        ArcsWithLoops::of(self.arcs.as_slice())
     }
 
     /// The arc of a number, `None` exactly past the last arc.

@@ -16,7 +16,7 @@ pub mod Parted
 pub mod TableOfMap
 pub mod WalkSteps
 pub mod Noting
-pub mod NotedPlaces
+pub mod RecordedIndexes
 pub mod Found
 pub mod AllChains
 pub mod Slices
@@ -35,4 +35,3 @@ pub mod Siding
 pub mod ArcSegments
 pub mod Staying
 pub mod Paired
-pub mod ReplacedArcs

@@ -8,12 +8,11 @@ use Rattle.lines.proofs.Positions.{true_false}
 use Rattle.arcs.specs.Among.{among}
 use Rattle.lines.specs.PositionFilter.{may_hold}
 use Rattle.lines.specs.Holding.{Holds}
-use Rattle.chains.specs.VertexFilter.{arc_meets, arc_shared, meets_if, shared_if, KeepsClashes}
+use Rattle.chains.specs.VertexFilter.{arc_meets, arc_shared, KeepsClashes}
 use Rattle.chains.specs.Visits.{ends_of}
 use Rattle.lines.specs.declared.position_filter.PositionFilter.{PositionFilter}
 use Rattle.chains.specs.declared.visits.Visit.{Visit}
 use Rattle.chains.proofs.Among.{among_has}
-use Rattle.chains.proofs.TablesAsMap.{given, answered}
 
 -- what finds a bit not set is none of the list
 pub not_held : (bits : PositionFilter) (js ks : List Pos) (p : Pos) (b : Bool) → ks ≡ js → b ≡ may_hold bits p → b ≡ false → Holds (may_hold bits) ks → b ≡ among js p
@@ -40,14 +39,6 @@ none_any may (x ∷ l) h = ap (λ b. b || list_any may l) (h x (inl refl)) ∙ n
 
 pub keeps_all : (visits : List Visit) → KeepsClashes visits visits
 keeps_all visits = record { only = λ w h. h; clashing = λ v w h k s d. h }
-
-pub shared_given : (may : Pos → Bool) (loops : List (List Pos)) (o : Option (List Pos)) → shared_if may loops o ≡ given (arc_shared may loops) o
-shared_given may loops None = refl
-shared_given may loops (Some c) = refl
-
-pub meets_answered : (may : Pos → Bool) (loops : List (List Pos)) (o : Option (List Pos)) → meets_if may loops o ≡ answered false (arc_meets may loops) o
-meets_answered may loops None = refl
-meets_answered may loops (Some c) = refl
 
 -- the first and the last of a list
 pub ends_split : (x : Pos) (others front : List Pos) (last : Pos) → others ≡ front ++ (last ∷ []) → ends_of (x ∷ others) ≡ x ∷ (last ∷ [])

@@ -1,5 +1,5 @@
 -- The arcs of tables as lines and rings: what they visit, and the maps that have their segments and junctions.
-use Rattle.std.proofs.Common.{◌≡◌, ℕ, Bool, true, false, cond, not, List, [], ◌∷◌, ◌++◌, map, ◌⊎◌, inl, inr, refl, sym, ap, ◌∙◌, subst, Option, Some, None, slice_get, zero, suc, ◌+◌, ◌<◌, length, drop, append_assoc, arith}
+use Rattle.std.proofs.Common.{◌≡◌, ℕ, Bool, true, false, cond, not, List, [], ◌∷◌, ◌++◌, map, ◌⊎◌, inl, inr, refl, sym, ap, ◌∙◌, subst}
 use Rattle.theory.specs.Lists.{Has, EndOf, Between, gathered}
 use Rattle.theory.specs.LinesAndRings.{around, closed}
 use Rattle.theory.specs.Chain.{Free}
@@ -16,14 +16,13 @@ use Rattle.grid.specs.declared.pos.Pos.{Pos}
 use Rattle.lines.specs.Turned.{position_cmp}
 use Rattle.arcs.specs.Arcs.{Arcs}
 use Rattle.chains.specs.Index.{IsIndexOf, AreVisitsOf}
-use Rattle.chains.specs.OfArcs.{open_in, loops_in, tables_as_map, arc_ends, arc_visits, ends_if}
+use Rattle.chains.specs.OfArcs.{open_in, loops_in, tables_as_map, arc_ends, arc_visits}
 use Rattle.arcs.specs.Among.{Tells}
 use Rattle.arcs.specs.Table.{is_loop, is_loop_if, IsTableOf}
 use Rattle.chains.specs.Visits.{HaveSame, visit_of, inner_of, around_of, ends_of}
 use Rattle.chains.specs.declared.visits.Visit.{Visit}
 use Rattle.lines.specs.Positions.{position_total, position_same}
 use Rattle.lines.proofs.Positions.{position_dec}
-use Rattle.lines.proofs.Dropping.{drop_next}
 use Rattle.chains.proofs.Gathered.{Found, ends_has, has_ends, between_has, found_in}
 
 pub unclosed_rest : (c r : List Pos) (x : Pos) → c ≡ r ++ (x ∷ []) → unclosed c ≡ r
@@ -148,25 +147,25 @@ visits_of_tables s t ends visits e f = record {
 
 -- a table tells which of its arcs are free
 module _ (g : Geometry Pos) (sound : IsSound g) (t : Arcs) (table : IsTableOf g t) where
-  pub told : (c : List Pos) → Has c t.arcs → Tells (is_loop t.loops c) (Free (JunctionOf g) c)
-  told c h =
+  pub meant : (c : List Pos) → Has c t.arcs → Tells (is_loop t.loops c) (Free (JunctionOf g) c)
+  meant c h =
       let k = has_get t.arcs c h in
       subst (λ w. Tells (is_loop_if t.loops w) (Free (JunctionOf g) c)) k.1 (table.free k.0 c k.1)
 
   pub open_arc : (l : List Pos) → Has l (open_in t.loops t.arcs) → OpenArc g t.arcs l
-  open_arc l h = let k = open_has t.loops t.arcs l h in (k.0, (told l k.0).no k.1)
+  open_arc l h = let k = open_has t.loops t.arcs l h in (k.0, (meant l k.0).no k.1)
 
   pub arc_open : (l : List Pos) → OpenArc g t.arcs l → Has l (open_in t.loops t.arcs)
   arc_open l h = has_open t.loops t.arcs l h.0 (go (is_loop t.loops l) refl)
     where
       go : (b : Bool) → is_loop t.loops l ≡ b → b ≡ false
-      go true e = absurd (h.1 ((told l h.0).yes e))
+      go true e = absurd (h.1 ((meant l h.0).yes e))
       go false e = refl
 
   -- a free arc is the ring that it goes round, closed
   pub free_loop : (c : List Pos) → Has c t.arcs → is_loop t.loops c ≡ true → (c ≡ closed (unclosed c)) × LoopArc g t.arcs (unclosed c)
   free_loop c h e = elim (kind position_cmp position_total position_same position_dec g sound t.arcs table.arcs c h) [
-    | inl k ↦ absurd (k.1 ((told c h).yes e))
+    | inl k ↦ absurd (k.1 ((meant c h).yes e))
     | inr k ↦
         let p : unclosed c ≡ k.0 = ap unclosed k.1 ∙ unclosed_closed k.0 in
         (k.1 ∙ ap closed (sym p), subst (LoopArc g t.arcs) (sym p) k.2)
@@ -181,7 +180,7 @@ module _ (g : Geometry Pos) (sound : IsSound g) (t : Arcs) (table : IsTableOf g 
     where
       go : (b : Bool) → is_loop t.loops (closed r) ≡ b → b ≡ true
       go true e = refl
-      go false e = absurd ((told (closed r) h.0).no e h.1)
+      go false e = absurd ((meant (closed r) h.0).no e h.1)
 
 -- a map of two sound ones
 pub union_sound : (m n u : Geometry Pos) → IsSound m → IsSound n → IsUnionOf m n u → IsSound u
@@ -224,42 +223,3 @@ index_alike a u h js i = record {
   all = λ v j. i.all v (h.junctions_back v j);
   only = λ v k. h.junctions v (i.only v k);
 }
-
--- what f gives for the member, where there is one
-abbrev pub given : {A B : Type 0} → (A → List B) → Option A → List B
-given f None = []
-given f (Some x) = f x
-
-there : {A : Type 0} (l : List A) (i : ℕ) → i < length l → (x : A) × (slice_get l i ≡ Some x)
-there [] i h = absurd (omega arith)
-there (x ∷ l) zero h = (x, refl)
-there (x ∷ l) (suc i) h = there l i (omega (arith, h))
-
--- a step over the arcs
-pub left_step : {A B : Type 0} (f : A → List B) (l : List A) (i : ℕ) (before y : List B) → i < length l → y ≡ given f (slice_get l i) →
-    before ++ gathered f (drop i l) ≡ (before ++ y) ++ gathered f (drop (i + 1) l)
-left_step f l i before y h s =
-    let t = there l i h in
-    ap (λ w. before ++ gathered f w) (drop_next l i t.0 t.1)
-    ∙ ap (λ w. before ++ (w ++ gathered f (drop (i + 1) l))) (sym (s ∙ ap (given f) t.1))
-    ∙ sym (append_assoc before y (gathered f (drop (i + 1) l)))
-
--- what f gives for the member, where there is one, and otherwise d
-abbrev pub answered : {A B : Type 0} → B → (A → B) → Option A → B
-answered d f None = d
-answered d f (Some x) = f x
-
--- one more member mapped
-pub map_step : {A B : Type 0} (d : B) (f : A → B) (l : List A) (i : ℕ) (before now : List B) (y : B) (all : List B) → i < length l → y ≡ answered d f (slice_get l i) →
-    now ≡ before ++ (y ∷ []) → before ++ map f (drop i l) ≡ all → now ++ map f (drop (i + 1) l) ≡ all
-map_step d f l i before now y all h s e k =
-    let t = there l i h in
-    let z : y ≡ f t.0 = s ∙ ap (answered d f) t.1 in
-    ap (λ w. w ++ map f (drop (i + 1) l)) (e ∙ ap (λ w. before ++ (w ∷ [])) z)
-    ∙ append_assoc before (f t.0 ∷ []) (map f (drop (i + 1) l))
-    ∙ ap (λ w. before ++ map f w) (sym (drop_next l i t.0 t.1))
-    ∙ k
-
-pub ends_given : (loops : List (List Pos)) (o : Option (List Pos)) → ends_if loops o ≡ given (arc_ends loops) o
-ends_given loops None = refl
-ends_given loops (Some c) = refl

@@ -41,11 +41,6 @@ arc_ends loops c = cond (is_loop loops c) [] (ends_of c)
 abbrev pub arc_visits : List (List Pos) → List Pos → List Visit
 arc_visits loops c = cond (is_loop loops c) (around_of (unclosed c)) (inner_of c)
 
--- the ends of an arc, where there is one
-abbrev pub ends_if : List (List Pos) → Option (List Pos) → List Pos
-ends_if loops None = []
-ends_if loops (Some c) = arc_ends loops c
-
 -- the pieces of an arc, where these are the junctions [topojson-server; own]
 abbrev pub arc_pieces : List Pos → List (List Pos) → List Pos → List Piece
 arc_pieces junctions loops c = pieces_at (among junctions) (is_loop loops c) c

@@ -51,16 +51,6 @@ arc_meets may loops c = meets may (is_loop loops c) c
 abbrev pub arc_shared : (Pos → Bool) → List (List Pos) → List Pos → List Visit
 arc_shared may loops c = met_visits may (is_loop loops c) c
 
--- the same, where there is an arc
-abbrev pub meets_if : (Pos → Bool) → List (List Pos) → Option (List Pos) → Bool
-meets_if may loops None = false
-meets_if may loops (Some c) = arc_meets may loops c
-
--- the same, where there is an arc; else no visits
-abbrev pub shared_if : (Pos → Bool) → List (List Pos) → Option (List Pos) → List Visit
-shared_if may loops None = []
-shared_if may loops (Some c) = arc_shared may loops c
-
 -- an arc that is not marked is its own one piece, where these are the junctions
 abbrev pub StayWhole : List Pos → Arcs → List Bool → Type 0
 StayWhole junctions t marks = (i : ℕ) (c : List Pos) → slice_get t.arcs i ≡ Some c → get_or marks i true ≡ false → arc_pieces junctions t.loops c ≡ whole t.loops c

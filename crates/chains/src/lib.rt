@@ -9,7 +9,6 @@ mod listing;
 mod recent;
 mod repeats;
 pub mod segment;
-pub mod sides;
 mod starts;
 mod stop_set;
 mod stops;
@@ -24,5 +23,4 @@ pub use arcs::{
 pub use cutting::{add_pieces, cut_line, cut_ring};
 pub use joining::{maximal, maximal_with};
 pub use segment::Segment;
-pub use sides::segments_of;
 pub use visits::{ArcsIndex, PiecesIndex, VisitIndex};

@@ -1,5 +1,5 @@
 -- What differs between lists of geometries and keys differs between two others that are alike member by member.
-use Rattle.std.proofs.Common.{◌≡◌, ◌↔◌, ◌<◌, ℕ, zero, suc, List, [], ◌∷◌, length, inl, inr, refl, sym, ap, ◌∙◌, subst, Some, slice_get}
+use Rattle.std.proofs.Common.{◌≡◌, ◌↔◌, ℕ, zero, suc, List, [], ◌∷◌, refl, sym, ap, ◌∙◌, subst, Some, slice_get}
 use Rattle.shapes.specs.declared.shape.Id.{Id}
 use Rattle.shapes.specs.declared.shape.Id.TheVariants as id
 use Rattle.theory.specs.Lists.{Has, Pairwise}

@@ -1,7 +1,7 @@
 pub mod BodyUses
 pub mod QualityLemmas
 pub mod Tables
-pub mod Standings
+pub mod Counted
 pub mod Fated
 pub mod Listing
 pub mod Alike

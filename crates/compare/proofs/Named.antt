@@ -1,7 +1,5 @@
 -- The layer of a name, found by halving.
-use Rattle.std.proofs.Common.{◌≡◌, ℕ, zero, suc, ◌+◌, ◌<◌, ◌≤◌, ◌⊎◌, List, [], ◌∷◌, length, get_or, inl, inr, refl, sym, ap, ◌∙◌, subst, arith, Result, Ok, Err, Option, Some, None, slice_get, false}
-use Rattle.std.specs.Prelude.{map as map_list}
-use Rattle.std.specs.List.{AllByRecursion}
+use Rattle.std.proofs.Common.{◌≡◌, ℕ, zero, suc, ◌+◌, List, [], ◌∷◌, length, get_or, inl, inr, sym, ap, ◌∙◌, subst, arith, Result, Ok, Err, Option, false}
 use Rattle.std.specs.List.Sorted.{IsBinarySearchResult, IsSearchInRange, IsSortedByKey, IsStrictlySortedBy}
 use Rattle.std.specs.Cmp.{tied_itself}
 use Rattle.std.specs.Cmp.Lexicographic.{nat_list_cmp_total, slice_cmp}
@@ -12,7 +10,6 @@ use Rattle.std.specs.declared.cmp.Ordering.TheVariants.{Less, Equal, Greater}
 use Rattle.std.proofs.lemmas.List.Sorted.{searchable_from_sorted}
 use Rattle.lines.proofs.SortedLists.{Contains-from_has}
 use Rattle.shapes.specs.OrderLaws.{same_text}
-use Rattle.theory.specs.Lists.{Has}
 use Rattle.theory.proofs.Ascending.{less_back}
 use Rattle.topo.specs.Parts.{LayerParts}
 use Rattle.arcs.proofs.Looking.{get_or_some, split_at}

@@ -13,8 +13,8 @@ use Rattle.std.proofs.lemmas.Option.{slice_get_past, slice_get_read}
 use Rattle.shapes.specs.OrderLaws.{same_text}
 use Rattle.theory.specs.Arcs.{Ascends}
 use Rattle.theory.specs.Lists.{Has, Pairwise}
-use Rattle.theory.proofs.Ascending.{greater_back, less_self, same_members}
-use Rattle.theory.proofs.ListsOfLists.{Has-map, Pairwise-same, Pairwise-weaker, get_has, has_get, map_has}
+use Rattle.theory.proofs.Ascending.{greater_back, less_self}
+use Rattle.theory.proofs.ListsOfLists.{Has-map, Pairwise-weaker, get_has, has_get, map_has}
 use Rattle.topo.specs.Parts.{LayerParts}
 use Rattle.arcs.proofs.Looking.{split_at}
 use Rattle.compare.specs.Compared.{AreInOrder, IsNumberOf, IsPairIn, name_of}
@@ -282,13 +282,3 @@ one_number ls s q (Some i) (Some k) (x, at, named) (y, there, called) =
         | inr least ↦ omega (arith, most, least)
       ]
     ])
-
--- two lists of pairs of the same layers are equal
-pub one_pairing : (olds news : List LayerParts) → AreInOrder olds → AreInOrder news → (ps us : List LayerPair) → IsPairing olds news ps → IsPairing olds news us → ps ≡ us
-one_pairing olds news s t ps us a b =
-    let names : a.names ≡ b.names =
-    same_members R nat_list_cmp_total same_text a.names b.names (ascends a.names a.ascend) (ascends b.names b.ascend)
-    (λ q h. (b.exact q).1 ((a.exact q).0 h)) (λ q h. (a.exact q).1 ((b.exact q).0 h)) in
-    Pairwise-same (IsPairIn olds news)
-    (λ q p u x y. let o : p.old ≡ u.old = one_number olds s q p.old u.old x.old y.old in let n : p.new ≡ u.new = one_number news t q p.new u.new x.new y.new in λ i. record { old = o i; new = n i })
-    a.names ps us a.pairs (subst (λ qs. Pairwise (IsPairIn olds news) qs us) (sym names) b.pairs)

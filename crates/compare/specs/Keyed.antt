@@ -1,10 +1,7 @@
 -- The keys of features: their ids, or the values of a property.
 use Rattle.std.specs.Prelude.{◌≡◌, ℕ, List, Option, Some, None, map}
-use Rattle.serde_json.specs.Data.{Data, null, boolean, number, string, array, object}
-use Rattle.serde_json.specs.Find.{get}
-use Rattle.serde_json.specs.Written.{compact_text}
 use Rattle.shapes.specs.Parts.{properties_text, spelled_text}
-use Rattle.shapes.specs.Properties.{properties_value}
+use Rattle.shapes.specs.PropertyValues.{property_text}
 use Rattle.shapes.specs.declared.feature.Feature.{Feature}
 use Rattle.shapes.specs.declared.shape.Id.{Id}
 use Rattle.shapes.specs.declared.shape.Id.TheVariants as id
@@ -23,23 +20,9 @@ abbrev pub keys_in : Keys → List Id
 keys_in (Ids gs) = map id_of gs.now
 keys_in (Values ks) = ks.now
 
--- the compact text of a value; none of one that is missing or null
-abbrev pub value_text : Option Data → Option (List ℕ)
-value_text None = None
-value_text (Some null) = None
-value_text (Some (boolean b)) = Some (compact_text (boolean b))
-value_text (Some (number n)) = Some (compact_text (number n))
-value_text (Some (string s)) = Some (compact_text (string s))
-value_text (Some (array ds)) = Some (compact_text (array ds))
-value_text (Some (object ms)) = Some (compact_text (object ms))
-
--- the compact text of the property of a name, by the text of properties
-abbrev pub key_text : List ℕ → List ℕ → Option (List ℕ)
-key_text name t = value_text (get name (properties_value t))
-
 -- the compact text of a feature's property; none where it is missing or null
 abbrev pub feature_key : List ℕ → Feature → Option (List ℕ)
-feature_key name f = key_text name (properties_text f.props)
+feature_key name f = property_text name (properties_text f.props)
 
 -- the id is the text, or none where there is none
 abbrev pub IsKey : Option (List ℕ) → Id → Type 0
@@ -48,4 +31,4 @@ IsKey (Some t) k = (s : Spelled) × (k ≡ id.Text s) × (spelled_text s ≡ t)
 
 -- the keys are those of the geometries by a property
 abbrev pub AreKeys : List ℕ → List Geom → List Id → Type 0
-AreKeys name = Pairwise (λ g k. IsKey (key_text name (properties_text g.props)) k)
+AreKeys name = Pairwise (λ g k. IsKey (property_text name (properties_text g.props)) k)

@@ -6,7 +6,6 @@ ghost use Rattle.compare.specs.Pairing.{IsPairing};
 ghost use Rattle.compare.specs.Placed.{IsDifferenceAt};
 ghost use Rattle.compare.specs.declared.fault.CompareFault.TheVariants.{OtherGrid};
 ghost use Rattle.topo.specs.LayerLaws.CutLayers.{layer_recut};
-ghost use Rattle.topo.specs.LayerLaws.Cuts as cuts;
 ghost use Rattle.split_heal.specs.SplitParts.{of_side};
 ghost use Rattle.shapes.specs.Maps.{Layers, features_at};
 ghost use Rattle.shapes.specs.Sets as set;
@@ -19,32 +18,11 @@ use crate::fault::CompareFault;
 use crate::keys::Keys;
 use crate::pairs::{LayerPair, pairs_of};
 use crate::property::keys_of;
-use chains::table::{ArcRef, ArcTable};
+use chains::table::ArcTable;
 use faults::OutOfMemory;
 use split_heal::{Recut, Side, recut_owned};
 use std::alloc::{AllocError, Global};
-use topo::{Geom, Layer, NewLists, Topology, layers_rewritten};
-
-/// The lists of a side by the new arcs.
-#[derive(Drop)]
-struct ListsOf<'a> {
-    recut: &'a Recut,
-    side: Side,
-}
-
-impl NewLists for ListsOf<'_> {
-    ghost line_of = { λ s. cuts.line_recut (of_side s.side s.recut.now) };
-
-    ghost ring_of = { λ s. cuts.ring_recut s.recut.now.arcs.arcs (of_side s.side s.recut.now) };
-
-    fn line(&self, alloc: Global, used: &[ArcRef]) -> Result<Vec<ArcRef>, OutOfMemory> {
-        self.recut.line(alloc, self.side, used)
-    }
-
-    fn ring(&self, alloc: Global, used: &[ArcRef]) -> Result<Vec<ArcRef>, OutOfMemory> {
-        self.recut.ring(alloc, self.side, used)
-    }
-}
+use topo::{Geom, Layer, Topology, layers_rewritten};
 
 /// The layers of a side by the new arcs.
 fn layers_by(
@@ -55,7 +33,7 @@ fn layers_by(
 ) -> Result<Vec<Layer>, OutOfMemory>
     ensures { IfOk result (λ v. v.items ≡ map_list (layer_recut recut.now.arcs.arcs (of_side side recut.now)) layers.items) }
 {
-    layers_rewritten(alloc, &ListsOf { recut, side }, layers)
+    layers_rewritten(alloc, &recut.lists(side), layers)
 }
 
 /// The arcs of two topologies together, and the layers of both by these arcs. Their geometries keep their order.
@@ -86,12 +64,6 @@ fn geometries_at<'a>(layers: &'a [Layer], number: Option<usize>) -> &'a [Geom]
         },
         None => &[],
     }
-}
-
-fn on_one_grid(old: &Topology, new: &Topology) -> bool
-    ensures { (result ≡ true) ↔ (old.now.grid ≡ new.now.grid) }
-{
-    old.grid() == new.grid()
 }
 
 /// The new arcs, and the layers of both sides by them.
@@ -125,13 +97,6 @@ fn recut_layers(alloc: Global, old: Topology, new: Topology) -> Result<Compariso
     Ok(made)
 }
 
-/// Both topologies by the same arcs.
-fn recut_both(alloc: Global, old: &Topology, new: &Topology) -> Result<Comparison, OutOfMemory>
-    ensures { IfOk result (λ c. (m n : Layers) → IsOf m old.now → IsOf n new.now → IsComparisonOf m n c) }
-{
-    recut_layers(alloc, old.share(alloc)?, new.share(alloc)?)
-}
-
 /// Prepares two topologies to be compared: the arcs of both are split at the junctions of both, once. Then two features
 /// are equal exactly where their ids, properties and lists of arcs are, so no feature is stitched.
 ///
@@ -141,10 +106,10 @@ pub fn compare(alloc: Global, old: &Topology, new: &Topology) -> Result<Comparis
     ensures compared { IfOk result (λ c. (m n : Layers) → IsOf m old.now → IsOf n new.now → IsComparisonOf m n c) }
     ensures other_grid { IsErrOf result OtherGrid ↔ ¬ (old.now.grid ≡ new.now.grid) }
 {
-    if !on_one_grid(old, new) {
+    if !old.is_on_grid_of(new) {
         return Err(CompareFault::OtherGrid);
     }
-    let comparison = recut_both(alloc, old, new)?;
+    let comparison = recut_layers(alloc, old.share(alloc)?, new.share(alloc)?)?;
     Ok(comparison)
 }
 

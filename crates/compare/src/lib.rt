@@ -16,4 +16,3 @@ pub use comparison::{Comparison, compare};
 pub use difference::{Changed, LayerDifference};
 pub use fault::CompareFault;
 pub use pairs::LayerPair;
-pub use property::property_text;

@@ -52,7 +52,6 @@ fn judge_height(alloc: Global, value: &Value<'_>) -> Result<Vec<Fault>, OutOfMem
 ///
 /// # Errors
 /// Where memory is refused.
-#[tactic(auto, using(crate::proofs::Items::judged_none, crate::proofs::Items::judged_more, crate::proofs::Items::judged_all))]
 pub fn judge_heights(alloc: Global, values: &[Value<'_>]) -> Result<Vec<Fault>, OutOfMemory>
     ensures { IfOk result (λ fs. pairs_of fs.items ≡ each_faults height_faults 2 (items_view (drop 2 values.now))) }
 {

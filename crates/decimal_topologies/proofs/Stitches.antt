@@ -1,18 +1,21 @@
 -- Places that are put one after another, and counted.
-use Rattle.std.proofs.Common.{◌≡◌, ℕ, ◌+◌, ◌<◌, ◌≤◌, true, nat_lt, length, get_or, drop, map, List, [], ◌∷◌, ◌++◌, Some, slice_get, refl, sym, ap, ◌∙◌, arith, append_assoc, append-nil}
+use Rattle.std.proofs.Common.{◌≡◌, ℕ, ◌+◌, ◌<◌, ◌≤◌, Bool, true, false, nat_lt, length, get_or, drop, map, List, [], ◌∷◌, ◌++◌, Option, Some, unwrap_or, Result, slice_get, refl, sym, ap, ◌∙◌, arith, append_assoc, append-nil}
 use Rattle.std.proofs.lemmas.Bool.{lt-ltb}
 use Rattle.std.proofs.lemmas.List.{drop_more, drop_all, map-append}
 use Rattle.std.specs.declared.alloc.Global.{Global}
-use Rattle.json.specs.Json.{Items}
+use Rattle.json.specs.Json.{Items, Json}
 use Rattle.json.specs.Value.{value_view, items_view}
 use Rattle.json.specs.declared.value.Value.{Value}
+use Rattle.faults.specs.declared.fault.FaultKind.{FaultKind}
 use Rattle.grid.specs.declared.pos.Pos.{Pos}
 use Rattle.decimal_faults.proofs.Items.{Values}
 use Rattle.decimal_maps.specs.declared.tally.Tally.{Tally}
 use Rattle.decimal_arcs.specs.Seen.{seen_arcs}
-use Rattle.decimal_topologies.specs.Stitching.{behind, places_at, positions_along, stitched, stitched_behind}
+use Rattle.decimal_topologies.specs.Stitching.{along_if, behind, places_at, positions_along, ref_of, stitched, stitched_behind}
 use Rattle.decimal_arcs.specs.Tallies.{with_place, with_places}
 use Rattle.decimal_arcs.specs.declared.place.Place.{Place}
+use Rattle.decimal_topologies.specs.declared.numbers.ArcRef.{ArcRef}
+use Rattle.decimal_topologies.proofs.Judging.{number_is}
 use Rattle.decimal_topologies.proofs.Tables.{Table, dropped}
 
 abbrev pub positions : List Place → List Pos
@@ -44,6 +47,15 @@ put_all-put ps first i before found old tally past h = sym (append-nil found) �
 
 pub put_all-counted : (ps : List Place) (first i : ℕ) (before found : List Pos) (old tally : Tally) → length ps ≤ i → Put ps first i before found old tally → tally ≡ with_places (drop first ps) old
 put_all-counted ps first i before found old tally past h = ap (λ qs. with_places qs tally) (sym (drop_all i ps past)) ∙ h.counted
+
+-- ---- the places of one value
+
+pub places_of : (ts : Table) (j : Json) (r : Result ArcRef FaultKind) (o : Option (List Place)) → r ≡ ref_of (length ts) j → o ≡ along_if (seen_arcs ts) r → places_at (seen_arcs ts) j ≡ unwrap_or o []
+places_of ts j r o number is = ap (λ s. unwrap_or (along_if (seen_arcs ts) s) []) (number_is ts j r number) ∙ ap (λ p. unwrap_or p []) (sym is)
+
+pub none_behind : (more : Bool) (ps : List Place) → ps ≡ [] → behind more ps ≡ []
+none_behind false ps e = e
+none_behind true ps e = ap (drop 1) e
 
 -- ---- arcs one after another
 

@@ -147,7 +147,6 @@ fn add_place(tally: &mut Tally, place: Place)
 }
 
 // Puts the places along an arc from an index on behind others.
-#[tactic(auto, using(crate::proofs::Stitches::put_none))]
 fn put_along(
     found: &mut Vec<Pos>,
     places: &[Place],

@@ -12,7 +12,8 @@ use Rattle.topo.specs.OfMap.{IsOf}
 use Rattle.topo.specs.Parts.{TopologyParts}
 use Rattle.topo.specs.Bodies.{Body}
 use Rattle.topo.specs.declared.geom.Geom.{Geom}
-use Rattle.difference_text.specs.DifferenceParts.{LayerReport, direction_words, has_other_id, has_some, kind_name, text_or, layer_report}
+use Rattle.shapes.specs.Forms.{kind_name}
+use Rattle.difference_text.specs.DifferenceParts.{LayerReport, direction_words, has_other_id, has_some, text_or, layer_report}
 use Rattle.difference_text.specs.DifferenceLines.{difference_lines}
 use Rattle.difference_text.specs.DifferenceText.{AreAllChanges, counts_of}
 use Rattle.text_parts.specs.TextParts.{behind_texts}

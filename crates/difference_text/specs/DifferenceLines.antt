@@ -11,7 +11,8 @@ use Rattle.sinks.specs.Texts.{option_text}
 use Rattle.topo.specs.Parts.{TopologyParts}
 use Rattle.topo.specs.Bodies.{Body}
 use Rattle.topo.specs.declared.geom.Geom.{Geom}
-use Rattle.difference_text.specs.DifferenceParts.{LayerReport, direction_words, has_other_id, has_some, kind_name, text_or, layer_report}
+use Rattle.shapes.specs.Forms.{kind_name}
+use Rattle.difference_text.specs.DifferenceParts.{LayerReport, direction_words, has_other_id, has_some, text_or, layer_report}
 use Rattle.difference_text.specs.DifferenceText.{counts_of}
 use Rattle.text_parts.specs.TextParts.{behind_texts, each_text}
 use Rattle.difference_text.specs.declared.difference.ChangeCounts.{ChangeCounts}

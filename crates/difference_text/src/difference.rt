@@ -17,7 +17,7 @@ use crate::fault::DifferenceFault;
 use crate::geometry::{GeometryChange, is_turned};
 use crate::members::{MemberChange, member_changes};
 use crate::vertices::PassedPoints;
-use compare::{Changed, Comparison, LayerDifference, LayerPair, compare, property_text};
+use compare::{Changed, Comparison, LayerDifference, LayerPair, compare};
 use faults::OutOfMemory;
 use std::alloc::{AllocError, Global};
 use topo::{Geom, Layer, Topology};
@@ -142,12 +142,6 @@ fn lack_layer(old: &Topology, new: &Topology, layer: Option<&str>) -> bool
     }
 }
 
-fn on_one_grid(old: &Topology, new: &Topology) -> bool
-    ensures { (result ≡ true) ↔ (old.now.grid ≡ new.now.grid) }
-{
-    old.grid() == new.grid()
-}
-
 /// What differs between two topologies: all layers, or the one that is asked for.
 ///
 /// # Errors
@@ -166,7 +160,7 @@ pub fn find_difference(
     ensures no_layer { (m n : Layers) → IsOf m old.now → IsOf n new.now → (IsErrOf result NoLayer ↔ ((old.now.grid ≡ new.now.grid) × LackLayer (option_copied options.now.layer) m n)) }
     ensures unwritten { IfErr result (λ f. ¬ (f ≡ Write)) }
 {
-    if !on_one_grid(old, new) {
+    if !old.is_on_grid_of(new) {
         return Err(DifferenceFault::OtherGrid);
     }
     if lack_layer(old, new, options.layer) {
@@ -306,7 +300,7 @@ impl<'a> BothLayers<'a> {
     /// The compact text of a feature's key, where features pair by a property that it has.
     fn key_of(&self, alloc: Global, geometry: &Geom) -> Result<Option<String>, OutOfMemory> {
         match self.key {
-            Some(name) => property_text(alloc, &geometry.props, name),
+            Some(name) => geometry.props.value_text(alloc, name),
             None => Ok(None),
         }
     }

@@ -1,5 +1,5 @@
 //! What differs between the geometries of two features.
-ghost use Rattle.difference_text.specs.DifferenceParts.{has_lines, kind_name};
+ghost use Rattle.difference_text.specs.DifferenceParts.{has_lines};
 ghost use Rattle.std.specs.Prelude.{◌≡◌};
 
 use chains::ArcRef;
@@ -17,21 +17,6 @@ pub enum GeometryChange {
     Vertices { gone: usize, new: usize },
 }
 
-/// The kind of a geometry, by its name in GeoJSON.
-pub(crate) fn kind_of(body: &Body) -> &'static str
-    ensures { result.now ≡ kind_name body.now }
-{
-    match body {
-        Body::Null => "null",
-        Body::Point(_) => "Point",
-        Body::MultiPoint(_) => "MultiPoint",
-        Body::Line(_) => "LineString",
-        Body::MultiLine(_) => "MultiLineString",
-        Body::Polygon(_) => "Polygon",
-        Body::MultiPolygon(_) => "MultiPolygon",
-    }
-}
-
 /// Whether a geometry is made of lines, rather than of rings.
 pub(crate) fn has_lines(body: &Body) -> bool
     ensures { result ≡ has_lines body.now }
@@ -42,52 +27,31 @@ pub(crate) fn has_lines(body: &Body) -> bool
 /// Whether two geometries, which are given by the same arcs, have the same lines or rings at the same places, in either
 /// direction.
 pub(crate) fn is_turned(old: &Body, new: &Body) -> bool {
-    match old {
-        Body::Line(a) => match new {
-            Body::Line(b) => is_line(a.as_slice(), b.as_slice()),
-            _ => false,
-        },
-        Body::MultiLine(a) => match new {
-            Body::MultiLine(b) => are_lines(a.as_slice(), b.as_slice()),
-            _ => false,
-        },
-        Body::Polygon(a) => match new {
-            Body::Polygon(b) => are_rings(a.as_slice(), b.as_slice()),
-            _ => false,
-        },
-        Body::MultiPolygon(a) => match new {
-            Body::MultiPolygon(b) => are_polygons(a.as_slice(), b.as_slice()),
-            _ => false,
-        },
-        Body::Null | Body::Point(_) | Body::MultiPoint(_) => false,
+    if old.kind_name() != new.kind_name() || old.parts().next().is_none() {
+        return false;
     }
-}
-
-fn are_polygons(a: &[Items<Items<ArcRef>>], b: &[Items<Items<ArcRef>>]) -> bool {
-    for number in 0..a.len().min(b.len()) {
-        if !are_rings(a[number].as_slice(), b[number].as_slice()) {
-            return false;
-        }
-    }
-    a.len() == b.len()
-}
-
-fn are_rings(a: &[Items<ArcRef>], b: &[Items<ArcRef>]) -> bool {
-    for number in 0..a.len().min(b.len()) {
-        if !is_ring(a[number].as_slice(), b[number].as_slice()) {
-            return false;
-        }
-    }
-    a.len() == b.len()
+    are_lines(old.line_slice(), new.line_slice()) && are_polygons(old.polygons(), new.polygons())
 }
 
 fn are_lines(a: &[Items<ArcRef>], b: &[Items<ArcRef>]) -> bool {
-    for number in 0..a.len().min(b.len()) {
-        if !is_line(a[number].as_slice(), b[number].as_slice()) {
-            return false;
-        }
-    }
     a.len() == b.len()
+        && a.iter()
+            .zip(b)
+            .all(|(a, b)| is_line(a.as_slice(), b.as_slice()))
+}
+
+fn are_polygons(a: &[Items<Items<ArcRef>>], b: &[Items<Items<ArcRef>>]) -> bool {
+    a.len() == b.len()
+        && a.iter()
+            .zip(b)
+            .all(|(a, b)| are_rings(a.as_slice(), b.as_slice()))
+}
+
+fn are_rings(a: &[Items<ArcRef>], b: &[Items<ArcRef>]) -> bool {
+    a.len() == b.len()
+        && a.iter()
+            .zip(b)
+            .all(|(a, b)| is_ring(a.as_slice(), b.as_slice()))
 }
 
 /// Whether two lists of arcs are one line, in either direction.

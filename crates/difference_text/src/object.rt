@@ -6,7 +6,7 @@ ghost use Rattle.sinks.specs.Writes.{TookAll, TookPart};
 ghost use Rattle.std.specs.Prelude.{◌≡◌, ◌||◌, OnErr, OnOk, false, slice_get};
 
 use crate::difference::{Difference, FeatureChange, LayerChanges, Single};
-use crate::geometry::{GeometryChange, kind_of};
+use crate::geometry::GeometryChange;
 use crate::members::MemberChange;
 use crate::parts::{IdText, LayerView, TextOr, View, direction_words, has_other_id, is_one_kind};
 use shapes::Id;
@@ -155,8 +155,8 @@ impl<'a> Written for KindsMember<'a> {
     ghost text = { λ k. kinds_member k.0.now k.1.now };
 
     fn write<W: Sink>(&self, sink: &mut W) -> Result<(), WriteFault> {
-        let old = Then(Chars(kind_of(self.0)), Text(b"\"}"));
-        let new = Then(Chars(kind_of(self.1)), Then(Text(b"\",\"old\":\""), old));
+        let old = Then(Chars(self.0.kind_name()), Text(b"\"}"));
+        let new = Then(Chars(self.1.kind_name()), Then(Text(b"\",\"old\":\""), old));
         let kinds = Then(Text(b",\"kind\":{\"new\":\""), new);
         OneOf(is_one_kind(self.0, self.1), Text(b""), kinds).write(sink)
     }
@@ -343,13 +343,13 @@ fn write_names<W: Sink>(
     let mut is_behind = false;
     let mut left = layers;
     while let Some((changes, after)) = left.split_first() {
-        let is_told = is_missing(is_added, changes);
+        let is_answered = is_missing(is_added, changes);
         let name = Then(If(is_behind, Text(b",")), Chars(view.layer(changes).name));
-        match If(is_told, name).write(sink) {
+        match If(is_answered, name).write(sink) {
             Ok(()) => left = after,
             Err(fault) => return Err(fault),
         }
-        is_behind = is_either(is_behind, is_told);
+        is_behind = is_either(is_behind, is_answered);
     }
     Ok(())
 }

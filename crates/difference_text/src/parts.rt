@@ -1,5 +1,6 @@
 //! Parts that lines and the JSON object share.
-ghost use Rattle.difference_text.specs.DifferenceParts.{direction_words, has_other_id, kind_name, layer_name, text_or, layer_report, report_of};
+ghost use Rattle.difference_text.specs.DifferenceParts.{direction_words, has_other_id, layer_name, text_or, layer_report, report_of};
+ghost use Rattle.shapes.specs.Forms.{kind_name};
 ghost use Rattle.query.specs.AnswerTexts.{id_value_text};
 ghost use Rattle.sinks.specs.Writes.{TookAll, TookPart};
 ghost use Rattle.std.specs.Option.{option_copied};
@@ -7,7 +8,7 @@ ghost use Rattle.std.specs.Prelude.{◌≡◌, OnErr, OnOk};
 ghost use Rattle.std.specs.Str.{bytes_eq};
 
 use crate::difference::{Difference, LayerChanges, geometries_at, layer_at};
-use crate::geometry::{has_lines, kind_of};
+use crate::geometry::has_lines;
 use shapes::Id;
 use sinks::written::{Number, Text, Written};
 use sinks::{Sink, WriteFault};
@@ -105,7 +106,7 @@ pub(crate) fn has_other_id(old: &Id, new: &Id) -> bool
 pub(crate) fn is_one_kind(old: &Body, new: &Body) -> bool
     ensures { result ≡ bytes_eq (kind_name old.now) (kind_name new.now) }
 {
-    kind_of(old) == kind_of(new)
+    old.kind_name() == new.kind_name()
 }
 
 /// The words for lines or rings of which some run the other way.

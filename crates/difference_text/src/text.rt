@@ -5,7 +5,7 @@ ghost use Rattle.sinks.specs.Writes.{TookAll, TookPart};
 ghost use Rattle.std.specs.Prelude.{OnErr, OnOk};
 
 use crate::difference::{ChangeCounts, Difference, FeatureChange, LayerChanges, Single};
-use crate::geometry::{GeometryChange, kind_of};
+use crate::geometry::GeometryChange;
 use crate::members::MemberChange;
 use crate::parts::{IdText, LayerView, TextOr, View, direction_words, has_other_id, is_one_kind};
 use compare::LayerPair;
@@ -114,8 +114,8 @@ impl<'a> Written for KindsPart<'a> {
     ghost text = { λ k. kinds_part k.0.now k.1.now };
 
     fn write<W: Sink>(&self, sink: &mut W) -> Result<(), WriteFault> {
-        let new = Then(Chars(kind_of(self.1)), Text(b", "));
-        let kinds = Then(Chars(kind_of(self.0)), Then(Text(b" -> "), new));
+        let new = Then(Chars(self.1.kind_name()), Text(b", "));
+        let kinds = Then(Chars(self.0.kind_name()), Then(Text(b" -> "), new));
         OneOf(is_one_kind(self.0, self.1), Text(b""), kinds).write(sink)
     }
 }

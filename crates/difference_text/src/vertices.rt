@@ -1,7 +1,7 @@
 //! How many vertices only one of two geometries has. Both are given by the arcs of two topologies together: what lies
 //! inside of an arc lies on no other one, so arcs that both use are crossed out, and no vertex of them is looked at.
 use crate::difference::geometries_at;
-use crate::geometry::{GeometryChange, kind_of};
+use crate::geometry::GeometryChange;
 use chains::{ArcRef, ArcTable};
 use compare::{Comparison, LayerPair};
 use grid::Pos;
@@ -49,7 +49,7 @@ impl PassedPoints {
         let news = BodyVertices::of(alloc, table, new)?;
         let gone = self.count_alone(table, &olds, &news);
         let new_ones = self.count_alone(table, &news, &olds);
-        if gone == 0 && new_ones == 0 && kind_of(old) == kind_of(new) {
+        if gone == 0 && new_ones == 0 && old.kind_name() == new.kind_name() {
             return Ok(GeometryChange::Order);
         }
         Ok(GeometryChange::Vertices {
@@ -128,9 +128,9 @@ fn push_each(others: &[Pos], places: &mut Vec<Pos>) -> Result<(), AllocError> {
 }
 
 /// The positions of an arc between its ends.
-fn inside_of(table: &ArcTable, number: usize) -> &[Pos] {
-    match table.arc(number) {
-        Some([_, inside @ .., _]) => inside,
+fn inside_of(arc: &[Pos]) -> &[Pos] {
+    match arc {
+        [_, inside @ .., _] => inside,
         _ => &[],
     }
 }
@@ -140,7 +140,7 @@ fn count_inside(table: &ArcTable, arcs: &[usize], others: &[usize]) -> usize {
     let mut count = 0usize;
     for number in arcs {
         if others.binary_search(number).is_err() {
-            count = count.saturating_add(inside_of(table, *number).len());
+            count = count.saturating_add(table.arc(*number).map_or(0, |arc| inside_of(arc).len()));
         }
     }
     count
@@ -200,19 +200,19 @@ fn passed_points(
     if points.is_empty() {
         return Ok(passed);
     }
-    for number in 0..table.len() {
-        add_passed(table, number, points, &mut passed)?;
+    for (number, arc) in table.iter().enumerate() {
+        add_passed(arc, number, points, &mut passed)?;
     }
     Ok(passed)
 }
 
 fn add_passed(
-    table: &ArcTable,
+    arc: &[Pos],
     number: usize,
     points: &[Pos],
     passed: &mut BTreeMap<Pos, usize>,
 ) -> Result<(), AllocError> {
-    for position in inside_of(table, number) {
+    for position in inside_of(arc) {
         if points.binary_search(position).is_ok() {
             passed.insert(*position, number)?;
         }

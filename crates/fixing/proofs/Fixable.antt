@@ -16,7 +16,7 @@ use Rattle.fixing.specs.Loops.{loops_of}
 use Rattle.fixing.specs.Measures.{turns_left}
 use Rattle.fixing.specs.Polygons.{polygon_kept, polygon_left, polygons_left, polygons_of_loops, put_holes, rewound_polygon, with_holes}
 use Rattle.fixing.specs.Runs.{runs_of}
-use Rattle.fixing.specs.declared.linework.Need.TheVariants as need
+use Rattle.fixing.specs.declared.linework.Fix.TheVariants as need
 use Rattle.fixing.specs.declared.rules.FixingRules.{FixingRules}
 
 mapped : {A B P : Type 0} (f : A → B) (o : Option A) → IsSome o ↔ P → IsSome (option_map f o) ↔ P

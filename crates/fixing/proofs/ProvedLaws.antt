@@ -14,7 +14,7 @@ use Rattle.fixing.specs.Laws as law
 use Rattle.fixing.specs.Left.{closed_left, closed_list, closed_need, counted, is_refusing, left_by, line_counted, line_left, need_of, one_more, ring_counted}
 use Rattle.fixing.specs.Loops.{loops_of}
 use Rattle.fixing.specs.Runs.{runs_of}
-use Rattle.fixing.specs.declared.linework.Need.TheVariants.{Drop, Split}
+use Rattle.fixing.specs.declared.linework.Fix.TheVariants.{Drop, Split}
 use Rattle.fixing.specs.declared.rules.FixingRules.{FixingRules}
 use Rattle.fixing.proofs.LoopLaws as loop
 use Rattle.fixing.proofs.OddUses.{odd_uses}

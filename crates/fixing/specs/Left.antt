@@ -11,8 +11,8 @@ use Rattle.fixing.specs.Loops.{loops_of}
 use Rattle.fixing.specs.Runs.{runs_of}
 use Rattle.fixing.specs.declared.linework.Linework.{Linework}
 use Rattle.fixing.specs.declared.linework.Linework.TheVariants.{Line, Ring}
-use Rattle.fixing.specs.declared.linework.Need.{Need}
-use Rattle.fixing.specs.declared.linework.Need.TheVariants.{Nothing, Drop, Split}
+use Rattle.fixing.specs.declared.linework.Fix.{Fix}
+use Rattle.fixing.specs.declared.linework.Fix.TheVariants.{Nothing, Drop, Split}
 use Rattle.fixing.specs.declared.rules.Collapsed.{Collapsed}
 use Rattle.fixing.specs.declared.rules.Collapsed.TheVariants.{Refuse}
 use Rattle.fixing.specs.declared.rules.Fixes.{Fixes}
@@ -24,7 +24,7 @@ is_refusing Refuse = true
 is_refusing _ = false
 
 -- what is to be done with a line or ring that has a fault, or has none; none where the rules refuse it
-abbrev pub need_of : FixingRules → Option ShapeFault → Option Need
+abbrev pub need_of : FixingRules → Option ShapeFault → Option Fix
 need_of rules None = Some Nothing
 need_of rules (Some TooShort) = cond (is_refusing rules.collapsed) None (Some Drop)
 need_of rules (Some Revisit) = cond rules.splits_folded (Some Split) None
@@ -37,13 +37,13 @@ parts_of Line l = runs_of (collapsed position_cmp l)
 parts_of Ring l = loops_of l
 
 -- what is left of a list, where `parts` are those that it is split into
-abbrev pub left_by : Need → List Pos → List (List Pos) → List (List Pos)
+abbrev pub left_by : Fix → List Pos → List (List Pos) → List (List Pos)
 left_by Nothing list parts = list ∷ []
 left_by Drop list parts = []
 left_by Split list parts = parts
 
 -- what is to be done with a line
-abbrev pub line_need : FixingRules → List Pos → Option Need
+abbrev pub line_need : FixingRules → List Pos → Option Fix
 line_need rules l = need_of rules (line_fault position_cmp l)
 
 -- whether a ring is open: its last position is not its first
@@ -59,11 +59,11 @@ abbrev pub closed_list : FixingRules → List Pos → List Pos
 closed_list rules l = cond (closes rules l) (closed l) l
 
 -- what is to be done with a closed list
-abbrev pub closed_need : FixingRules → List Pos → Option Need
+abbrev pub closed_need : FixingRules → List Pos → Option Fix
 closed_need rules l = need_of rules (ring_fault position_cmp l)
 
 -- what is to be done with a ring
-abbrev pub ring_need : FixingRules → List Pos → Option Need
+abbrev pub ring_need : FixingRules → List Pos → Option Fix
 ring_need rules l = closed_need rules (closed_list rules l)
 
 -- what is left of a line; none where it is refused
@@ -100,7 +100,7 @@ abbrev pub one_more : ℕ → ℕ
 one_more n = min (n + 1) (2 ^ 64 - 1)
 
 -- with what was done counted
-abbrev pub counted : Option Need → Fixes → Fixes
+abbrev pub counted : Option Fix → Fixes → Fixes
 counted None fixes = fixes
 counted (Some Nothing) fixes = fixes
 counted (Some Drop) fixes = record fixes { collapsed = one_more fixes.collapsed }

@@ -4,12 +4,12 @@ use Rattle.std.specs.BTreeMap.{get}
 use Rattle.grid.specs.declared.pos.Pos.{Pos}
 use Rattle.lines.specs.Turned.{position_cmp}
 use Rattle.fixing.specs.Loops.{loops_on}
-use Rattle.fixing.specs.declared.loops.LoopWalk.{LoopWalk}
+use Rattle.fixing.specs.declared.loops.LoopFinder.{LoopFinder}
 
 -- each position of the path is noted with its place there
-abbrev pub IsNoted : LoopWalk → Type 0
-IsNoted walk = (k : ℕ) (p : Pos) → slice_get walk.path.items k ≡ Some p → get position_cmp walk.places p ≡ Some k
+abbrev pub IsRecorded : LoopFinder → Type 0
+IsRecorded walk = (k : ℕ) (p : Pos) → slice_get walk.path.items k ≡ Some p → get position_cmp walk.places p ≡ Some k
 
 -- the loops, where the walk goes on along a list
-abbrev pub loops_left : LoopWalk → List Pos → List (List Pos)
+abbrev pub loops_left : LoopFinder → List Pos → List (List Pos)
 loops_left walk l = walk.loops.items ++ loops_on walk.path.items l

@@ -22,14 +22,14 @@ use std::alloc::{AllocError, Global};
 
 /// What is to be done with a line or ring.
 #[derive(Clone, Copy)]
-enum Need {
+enum Fix {
     Nothing,
     Drop,
     Split,
 }
 
 /// What the rules say of a fault.
-fn need_of(fault: ShapeFault, rules: &FixingRules) -> Result<Need, Broken>
+fn need_of(fault: ShapeFault, rules: &FixingRules) -> Result<Fix, Broken>
     ensures ok { IfOk result (λ need. needed rules.now (Some fault) ≡ Some need) }
     ensures refused { IfErr result (λ e. e ≡ Broken.Refused → needed rules.now (Some fault) ≡ None) }
     ensures memory { IfErr result (λ e. fault ≡ ShapeFault.OutOfMemory → e ≡ Broken.OutOfMemory) }
@@ -37,21 +37,21 @@ fn need_of(fault: ShapeFault, rules: &FixingRules) -> Result<Need, Broken>
     match fault {
         ShapeFault::TooShort => match rules.collapsed {
             Collapsed::Refuse => Err(Broken::Refused),
-            Collapsed::Null | Collapsed::Drop => Ok(Need::Drop),
+            Collapsed::Null | Collapsed::Drop => Ok(Fix::Drop),
         },
-        ShapeFault::Revisit if rules.splits_folded => Ok(Need::Split),
+        ShapeFault::Revisit if rules.splits_folded => Ok(Fix::Split),
         ShapeFault::Revisit | ShapeFault::NotClosed => Err(Broken::Refused),
         ShapeFault::OutOfMemory => Err(Broken::OutOfMemory),
     }
 }
 
-fn closed_need(alloc: Global, closed: &[Pos], rules: &FixingRules) -> Result<Need, Broken>
+fn closed_need(alloc: Global, closed: &[Pos], rules: &FixingRules) -> Result<Fix, Broken>
     ensures ok { IfOk result (λ need. needed_of_closed rules.now closed.now ≡ Some need) }
     ensures refused { IfErr result (λ e. e ≡ Broken.Refused → needed_of_closed rules.now closed.now ≡ None) }
 {
     let copy = closed.to_vec(alloc)?;
     match Ring::from_closed(alloc, copy) {
-        Ok(_) => Ok(Need::Nothing),
+        Ok(_) => Ok(Fix::Nothing),
         Err(fault) => need_of(fault, rules),
     }
 }
@@ -113,7 +113,7 @@ enum Linework {
 /// The lists that are left of a line or ring of which that is to be done.
 fn left_by(
     alloc: Global,
-    need: Need,
+    need: Fix,
     list: Vec<Pos>,
     kind: Linework,
     fixes: &mut Fixes,
@@ -122,12 +122,12 @@ fn left_by(
     ensures fixes { OnOk result (fixes.new ≡ counted (Some need) fixes.old) }
 {
     match need {
-        Need::Nothing => only(alloc, Items::from_vec(list)),
-        Need::Drop => {
+        Fix::Nothing => only(alloc, Items::from_vec(list)),
+        Fix::Drop => {
             fixes.collapsed = fixes.collapsed.saturating_add(1);
             Ok(Vec::new(alloc))
         }
-        Need::Split => {
+        Fix::Split => {
             fixes.folded = fixes.folded.saturating_add(1);
             match kind {
                 Linework::Line => runs_of(alloc, list),

@@ -1,6 +1,6 @@
 //! Rings that use a segment twice, cut into loops.
 ghost use Rattle.fixing.specs.Loops.{loop_kept, loops_of as loops_in, place_on};
-ghost use Rattle.fixing.specs.Walks.{IsNoted, loops_left};
+ghost use Rattle.fixing.specs.Walks.{IsRecorded, loops_left};
 ghost use Rattle.grid.specs.declared.pos.Pos.{Pos};
 ghost use Rattle.std.specs.Prelude.{◌≡◌, ◌+◌, ◌<◌, ◌∷◌, ◌++◌, [], IfOk, OnOk, List, drop, take, vec_len};
 
@@ -12,19 +12,19 @@ use std::collections::BTreeMap;
 /// A walk round a ring: the loops that were cut off, the positions since the last one, each once, and where they
 /// are. Positions that the path has no more may be noted too.
 #[derive(Drop)]
-struct LoopWalk {
+struct LoopFinder {
     loops: Vec<Items<Pos>>,
     path: Vec<Pos>,
     places: BTreeMap<Pos, usize>,
 }
 
-impl LoopWalk {
+impl LoopFinder {
     /// The walk that has not begun.
-    fn new(alloc: Global) -> LoopWalk
-        ensures noted { IsNoted result }
+    fn new(alloc: Global) -> LoopFinder
+        ensures noted { IsRecorded result }
         ensures left { (l : List Pos) → loops_left result l ≡ loops_in l }
     {
-        LoopWalk {
+        LoopFinder {
             loops: Vec::new(alloc),
             path: Vec::new(alloc),
             places: BTreeMap::new(alloc),
@@ -33,7 +33,7 @@ impl LoopWalk {
 
     /// The place of a position on the path.
     fn place(&self, position: Pos) -> Option<usize>
-        requires { IsNoted self.now }
+        requires { IsRecorded self.now }
         ensures { result ≡ place_on position self.now.path.items }
     {
         let Some(place) = self.places.get(&position) else {
@@ -63,8 +63,8 @@ impl LoopWalk {
 
     /// Goes on to a position. Where the path has it, the loop since then is cut off.
     fn step(&mut self, alloc: Global, position: Pos) -> Result<(), AllocError>
-        requires { IsNoted self.old }
-        ensures noted { OnOk result (IsNoted self.new) }
+        requires { IsRecorded self.old }
+        ensures noted { OnOk result (IsRecorded self.new) }
         ensures left { OnOk result ((l : List Pos) → loops_left self.new l ≡ loops_left self.old (position ∷ l)) }
     {
         if let Some(place) = self.place(position) {
@@ -81,7 +81,7 @@ impl LoopWalk {
 pub(crate) fn loops_of(alloc: Global, closed: &[Pos]) -> Result<Vec<Items<Pos>>, AllocError>
     ensures { IfOk result (λ loops. loops.items ≡ loops_in closed.now) }
 {
-    let mut walk = LoopWalk::new(alloc);
+    let mut walk = LoopFinder::new(alloc);
     for position in closed {
         walk.step(alloc, *position)?;
     }

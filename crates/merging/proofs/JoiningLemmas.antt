@@ -32,13 +32,6 @@ module _ {S : Type 0} (grid : S → Transform) (map_of : S → Layers) where
       (λ m. Has-permutation (map_list map_of ys) (map_list map_of xs) m (IsPermutation-sym _ _ there))
       (λ m. Has-permutation (map_list map_of xs) (map_list map_of ys) m there)
 
-  pub none_paired : (shards joined left : List S) → joined ≡ [] → left ≡ shards → Paired grid map_of shards joined left
-  none_paired shards joined left e k = record {
-    count = omega (arith, ap length e, ap length k);
-    union_of = (λ i. union_all (map_list map_of (e i ++ k i)));
-    on_grid = λ g h. (subst (All (λ s. grid s ≡ g)) (sym e) (All-nil (λ s. grid s ≡ g)), subst (All (λ s. grid s ≡ g)) (sym k) h);
-  }
-
   -- two shards in place of their join
   joined_union : (joined after : List S) (a b s : S) → map_of s ≡ union (map_of a) (map_of b) →
       union_all (map_list map_of ((joined ++ (s ∷ [])) ++ after)) ≡ union_all (map_list map_of (joined ++ (a ∷ (b ∷ after))))

@@ -91,10 +91,6 @@ module _ {S : Type 0} (map_of : S → Layers) (shards : List S) where
       go (b ∷ []) e h = absurd h
       go (b ∷ a ∷ stack) e h = omega arith
 
-  -- nothing is left to do
-  pub last_made : (made before : List S) (s : S) (m : Layers) → Gives map_of shards [] (reverse made) m → made ≡ before ++ (s ∷ []) → map_of s ≡ m
-  last_made made before s m h e = let order : s ∷ reverse before ≡ h.0 ∷ [] = sym (last_first made before s e) ∙ h.1 in let same : s ≡ h.0 = cc in ap map_of same ∙ h.2
-
   pub one_made : (made : List S) (m : Layers) → Gives map_of shards [] (reverse made) m → made ≡ [] → ⊥
   one_made made m h e = let order : [] ≡ h.0 ∷ [] = sym (ap reverse e) ∙ h.1 in cc
 

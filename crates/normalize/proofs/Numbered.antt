@@ -1,11 +1,11 @@
--- Loops over the numbers of arcs.
+-- Loops over arcs, by the numbers of those that were looked at.
 use Rattle.std.proofs.Common.{◌≡◌, ◌<◌, ◌≤◌, ◌+◌, ℕ, zero, suc, List, [], ◌∷◌, ◌++◌, drop, length, slice_get, Some, map, ◌⊎◌, inl, inr, refl, sym, ap, ◌∙◌, subst, append_assoc, arith}
 use Rattle.grid.specs.declared.pos.Pos.{Pos}
 use Rattle.theory.specs.ArcNumbers.{ArcRef, StitchTo}
+use Rattle.theory.specs.Lists.{Pairwise}
 use Rattle.theory.specs.Refinement.{pieces_at}
 use Rattle.theory.proofs.Lists.{append_nil}
-use Rattle.normalize.specs.Pieces.{AreJoinedOf, ArePieces, AreSplit}
-use Rattle.chains.proofs.ReplacedArcs.{at_some}
+use Rattle.normalize.specs.Pieces.{AreJoinedOf}
 
 -- what stands at a place, and what is left from it on
 pub at_place : {A : Type 0} (n : ℕ) (l : List A) → n < length l → (x : A) × (slice_get l n ≡ Some x) × (drop n l ≡ x ∷ drop (n + 1) l)
@@ -27,20 +27,25 @@ within [] i x e = absurd cc
 within (y ∷ l) zero x e = omega arith
 within (y ∷ l) (suc i) x e = let k = within l i x e in omega (arith, k)
 
--- with pieces of the arcs from a number on, those made so far are the pieces of all
-abbrev pub SplitSoFar : List (List Pos) → List (List Pos) → List (List ArcRef) → ℕ → Type 0
-SplitSoFar table arcs made n = (rest : List (List ArcRef)) → AreSplit table (drop n arcs) rest → AreSplit table arcs (made ++ rest)
+-- what is made of the members of a list, one after the other
+module _ {A B : Type 0} (R : A → B → Type 0) (xs : List A) where
+  -- with what is made of the members from a place on, what was made so far is made of all
+  abbrev pub MadeSoFar : List B → ℕ → Type 0
+  MadeSoFar made n = (rest : List B) → Pairwise R (drop n xs) rest → Pairwise R xs (made ++ rest)
 
-pub split_on : (table arcs : List (List Pos)) (made now : List (List ArcRef)) (n : ℕ) (p : List ArcRef) → n < length arcs → now ≡ made ++ (p ∷ []) →
-    ((c : List Pos) → slice_get arcs n ≡ Some c → ArePieces table c p) → SplitSoFar table arcs made n → SplitSoFar table arcs now (n + 1)
-split_on table arcs made now n p h e is before rest k =
-    let t = at_place n arcs h in
-    subst (AreSplit table arcs) (sym (append_assoc made (p ∷ []) rest) ∙ ap (λ w. w ++ rest) (sym e))
-    (before (p ∷ rest) (subst (λ w. AreSplit table w (p ∷ rest)) (sym t.2) (is t.0 t.1, k)))
+  pub made_on : (made now : List B) (n : ℕ) (x : A) (y : B) → drop n xs ≡ x ∷ drop (n + 1) xs → now ≡ made ++ (y ∷ []) → R x y → MadeSoFar made n → MadeSoFar now (n + 1)
+  made_on made now n x y left e is before rest k =
+      subst (Pairwise R xs) (sym (append_assoc made (y ∷ []) rest) ∙ ap (λ w. w ++ rest) (sym e)) (before (y ∷ rest) (subst (λ w. Pairwise R w (y ∷ rest)) (sym left) (is, k)))
 
-pub split_all : (table arcs : List (List Pos)) (made : List (List ArcRef)) (n : ℕ) → length arcs ≤ n → SplitSoFar table arcs made n → AreSplit table arcs made
-split_all table arcs made n h so =
-    subst (AreSplit table arcs) (append_nil made) (so [] (subst (λ w. AreSplit table w []) (sym (none_left n arcs h)) tt))
+  pub made_all : (made : List B) (n : ℕ) → length xs ≤ n → MadeSoFar made n → Pairwise R xs made
+  made_all made n h so = subst (Pairwise R xs) (append_nil made) (so [] (subst (λ w. Pairwise R w []) (sym (none_left n xs h)) tt))
+
+-- what is behind a place, and what stands there
+pub behind : {A : Type 0} (n : ℕ) (l r : List A) (x : A) → drop n l ≡ x ∷ r → (drop (n + 1) l ≡ r) × (slice_get l n ≡ Some x)
+behind zero [] r x e = absurd cc
+behind zero (y ∷ l) r x e = let k : l ≡ r = cc in let m : y ≡ x = cc in (k, ap Some m)
+behind (suc n) [] r x e = absurd cc
+behind (suc n) (y ∷ l) r x e = let k : suc n + 1 ≡ suc (n + 1) = omega arith in let t = behind n l r x e in (ap (λ m. drop m (y ∷ l)) k ∙ t.0, t.1)
 
 -- the pieces of each arc before a number stitch to it
 abbrev pub StitchBefore : List (List Pos) → List (List Pos) → List (List ArcRef) → ℕ → Type 0
@@ -52,37 +57,16 @@ last_or zero (suc n) h = inl (omega arith)
 last_or (suc i) zero h = absurd (omega (arith, h))
 last_or (suc i) (suc n) h = elim (last_or i n (omega (arith, h))) [ inl k ↦ inl (omega (arith, k)) | inr e ↦ inr (ap suc e) ]
 
-pub stitch_on : (table arcs : List (List Pos)) (pieces : List (List ArcRef)) (n : ℕ) → ((c : List Pos) → slice_get arcs n ≡ Some c → StitchTo table (pieces_at pieces n) c) →
+pub stitch_on : (table arcs : List (List Pos)) (pieces : List (List ArcRef)) (n : ℕ) (x : List Pos) → slice_get arcs n ≡ Some x → StitchTo table (pieces_at pieces n) x →
     StitchBefore table arcs pieces n → StitchBefore table arcs pieces (n + 1)
-stitch_on table arcs pieces n is before i c h e =
+stitch_on table arcs pieces n x there is before i c h e =
     elim (last_or i n h) [
       | inl k ↦ before i c k e
-      | inr k ↦ subst (λ j. StitchTo table (pieces_at pieces j) c) (sym k) (is c (subst (λ j. slice_get arcs j ≡ Some c) k e))
+      | inr k ↦
+          let both : Some x ≡ Some c = sym there ∙ subst (λ j. slice_get arcs j ≡ Some c) k e in
+          let same : x ≡ c = cc in
+          subst (λ j. StitchTo table (pieces_at pieces j) c) (sym k) (subst (StitchTo table (pieces_at pieces n)) same is)
     ]
 
 pub stitch_all : (table arcs : List (List Pos)) (pieces : List (List ArcRef)) (n : ℕ) → length arcs ≤ n → StitchBefore table arcs pieces n → AreJoinedOf table arcs pieces
 stitch_all table arcs pieces n h so i c e = let k = within arcs i c e in so i c (omega (arith, h, k)) e
-
-pub numbered_stitch : (table arcs : List (List Pos)) (pieces : List (List ArcRef)) (n : ℕ) (ps : List ArcRef) (c d : List Pos) → Some c ≡ slice_get arcs n → Some ps ≡ slice_get pieces n →
-    StitchTo table ps c → slice_get arcs n ≡ Some d → StitchTo table (pieces_at pieces n) d
-numbered_stitch table arcs pieces n ps c d e f h there =
-    let k : Some c ≡ Some d = e ∙ there in
-    let same : c ≡ d = cc in
-    subst (λ w. StitchTo table w d) (sym (at_some pieces n ps f)) (subst (λ w. StitchTo table ps w) same h)
-
--- what stands at a place is the first of what is left from it on
-pub left_at : {A : Type 0} (l : List A) (n : ℕ) (x : A) → slice_get l n ≡ Some x → drop n l ≡ x ∷ drop (n + 1) l
-left_at l n x there =
-    let t = at_place n l (within l n x there) in
-    let k : Some t.0 ≡ Some x = sym t.1 ∙ there in
-    let same : t.0 ≡ x = cc in
-    t.2 ∙ ap (λ w. w ∷ drop (n + 1) l) same
-
--- with what is left, those made so far are all
-pub mapped_more : {A B : Type 0} (f : A → B) (l : List A) (n : ℕ) (x : A) (made now : List B) → slice_get l n ≡ Some x → now ≡ made ++ (f x ∷ []) →
-    made ++ map f (drop n l) ≡ map f l → now ++ map f (drop (n + 1) l) ≡ map f l
-mapped_more f l n x made now there e before =
-    ap (λ w. w ++ map f (drop (n + 1) l)) e
-    ∙ append_assoc made (f x ∷ []) (map f (drop (n + 1) l))
-    ∙ ap (λ w. made ++ map f w) (sym (left_at l n x there))
-    ∙ before

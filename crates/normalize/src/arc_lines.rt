@@ -1,5 +1,6 @@
 //! The used arcs of a text as the lines of a map.
 use crate::used::arcs_used;
+use arcs::marking::first_mark;
 use faults::OutOfMemory;
 use grid::pos::Pos;
 use itertools::Itertools;
@@ -13,10 +14,9 @@ use shapes::props::Props;
 use shapes::shape::{Id, Shape};
 use std::alloc::Global;
 use topo::Layer;
-use validate::accept::TextArcs;
 
 /// The place of the first of the least positions.
-fn place_of_least(positions: &[Pos]) -> usize {
+fn index_of_least(positions: &[Pos]) -> usize {
     positions.iter().position_min().unwrap_or(0)
 }
 
@@ -43,13 +43,13 @@ fn add_line(alloc: Global, lines: &mut Vec<Line>, positions: &[Pos]) -> Result<(
 /// begins at its least vertex, which has to be an end of a piece for that.
 fn lines_of(alloc: Global, arc: &[Pos]) -> Result<Vec<Line>, OutOfMemory> {
     let mut lines = Vec::new(alloc);
-    let place = place_of_least(arc);
-    if place == 0 || place >= arc.len().saturating_sub(1) {
+    let index = index_of_least(arc);
+    if index == 0 || index >= arc.len().saturating_sub(1) {
         add_line(alloc, &mut lines, arc)?;
         return Ok(lines);
     }
-    add_line(alloc, &mut lines, &arc[..place + 1])?;
-    add_line(alloc, &mut lines, &arc[place..])?;
+    add_line(alloc, &mut lines, &arc[..index + 1])?;
+    add_line(alloc, &mut lines, &arc[index..])?;
     Ok(lines)
 }
 
@@ -71,28 +71,20 @@ fn feature_of(alloc: Global, number: usize, arc: &[Pos]) -> Result<Feature, OutO
     })
 }
 
-fn add_feature(
-    alloc: Global,
-    features: &mut Vec<Feature>,
-    arcs: &TextArcs,
-    number: usize,
-) -> Result<(), OutOfMemory> {
-    match arcs.arc(number) {
-        Some(arc) => {
-            features.push(feature_of(alloc, number, arc)?)?;
-            Ok(())
-        }
-        None => Ok(()),
-    }
-}
-
 /// The features of those arcs that are marked, in the order of their numbers.
-fn features_of(alloc: Global, arcs: &TextArcs, used: &[bool]) -> Result<Vec<Feature>, OutOfMemory> {
+fn features_of(
+    alloc: Global,
+    arcs: &[Items<Pos>],
+    used: &[bool],
+) -> Result<Vec<Feature>, OutOfMemory> {
     let mut features = Vec::new(alloc);
-    for (number, marked) in used.iter().enumerate() {
-        if *marked {
-            add_feature(alloc, &mut features, arcs, number)?;
+    let mut left = used;
+    for (number, arc) in arcs.iter().enumerate() {
+        let (marked, others) = first_mark(left);
+        if marked {
+            features.push(feature_of(alloc, number, arc.as_slice())?)?;
         }
+        left = others;
     }
     Ok(features)
 }
@@ -100,7 +92,7 @@ fn features_of(alloc: Global, arcs: &TextArcs, used: &[bool]) -> Result<Vec<Feat
 /// The map of one layer that has those arcs that layers use, each as a feature whose id is the arc's number.
 pub(crate) fn map_of_arcs(
     alloc: Global,
-    arcs: &TextArcs,
+    arcs: &[Items<Pos>],
     layers: &[Layer],
 ) -> Result<FeatureMap, OutOfMemory> {
     let used = arcs_used(alloc, arcs.len(), layers)?;

@@ -2,9 +2,10 @@
 ghost use Rattle.std.specs.Prelude.{◌≡◌, IfOk, map as map_list};
 ghost use Rattle.topo.specs.Rewritten.{geometry_rewritten, layer_rewritten};
 
+use arcs::NewLists;
 use faults::OutOfMemory;
 use std::alloc::Global;
-use topo::{Geom, Layer, NewLists, copy_rewritten};
+use topo::{Geom, Layer, copy_rewritten};
 
 fn geometries_copied<L: NewLists>(
     alloc: Global,

@@ -1,7 +1,6 @@
 //! Arcs healed: joined where no node is.
-ghost use Rattle.grid.specs.declared.pos.Pos.{Pos as place};
 ghost use Rattle.normalize.specs.Pieces.{AreJoinedOf};
-ghost use Rattle.std.specs.Prelude.{◌≡◌, IfOk, IfSome, List, Some, slice_get, true};
+ghost use Rattle.std.specs.Prelude.{◌≡◌, IfOk, IfSome, true};
 ghost use Rattle.theory.specs.ArcNumbers.{StitchTo};
 ghost use Rattle.theory.specs.Refinement.{pieces_at};
 
@@ -13,14 +12,11 @@ use split_heal::{HealedArcs, heal};
 use std::alloc::Global;
 
 /// Whether the pieces of a joined arc stitch to it.
-fn stitches(table: &ArcTable, joined: &HealedArcs, number: usize) -> bool
-    ensures { result ≡ true → (c : List place) → slice_get joined.now.arcs.arcs number ≡ Some c → StitchTo table.now.arcs (pieces_at joined.now.pieces number) c }
+fn stitches(table: &ArcTable, joined: &HealedArcs, number: usize, arc: &[Pos]) -> bool
+    ensures { result ≡ true → StitchTo table.now.arcs (pieces_at joined.now.pieces number) arc.now }
 {
-    match joined.arcs().arc(number) {
-        Some(arc) => match joined.pieces(number) {
-            Some(pieces) => stitch_to(table, pieces, arc),
-            None => false,
-        },
+    match joined.pieces(number) {
+        Some(pieces) => stitch_to(table, pieces, arc),
         None => false,
     }
 }
@@ -29,10 +25,12 @@ fn stitches(table: &ArcTable, joined: &HealedArcs, number: usize) -> bool
 fn all_stitch(table: &ArcTable, joined: &HealedArcs) -> bool
     ensures { result ≡ true → AreJoinedOf table.now.arcs joined.now.arcs.arcs joined.now.pieces }
 {
-    for number in 0..joined.arcs().len() {
-        if !stitches(table, joined, number) {
+    let mut number = 0;
+    for arc in joined.arcs().iter() {
+        if !stitches(table, joined, number, arc) {
             return false;
         }
+        number += 1;
     }
     true
 }

@@ -8,7 +8,6 @@ pub mod arc_lists;
 mod copies;
 mod heal;
 mod lists;
-mod pieces;
 pub mod repeats;
 mod split;
 mod stitches;

@@ -6,32 +6,29 @@ ghost use Rattle.normalize.specs.Repeats.{AreWithoutRepeats};
 ghost use Rattle.std.specs.Prelude.{◌≡◌, IfOk, IfSome, is_some, map};
 
 use crate::copies::layers_copied;
+use arcs::NewLists;
 use chains::ArcRef;
 use faults::OutOfMemory;
 use grid::pos::Pos;
 use lines::items::Items;
 use lines::neighbours::has_equal_neighbours;
 use std::alloc::Global;
-use topo::{Layer, NewLists};
-use validate::accept::TextArcs;
+use topo::Layer;
 
 /// The arcs of a text without repeated positions, by the same numbers; and its layers without the used arcs
 /// that have one position then.
 #[derive(Drop)]
 pub struct WithoutRepeats {
-    pub arcs: TextArcs,
+    pub arcs: Vec<Items<Pos>>,
     pub layers: Vec<Layer>,
 }
 
 /// Whether an arc repeats a position.
-fn some_repeats(arcs: &TextArcs) -> bool
+fn some_repeats(arcs: &[Items<Pos>]) -> bool
     ensures { result ≡ spec.some_repeats arcs.now }
 {
-    for number in 0..arcs.len() {
-        let Some(arc) = arcs.arc(number) else {
-            return false;
-        };
-        if has_equal_neighbours(arc) {
+    for arc in arcs {
+        if has_equal_neighbours(arc.as_slice()) {
             return true;
         }
     }
@@ -46,15 +43,12 @@ fn arc_without_repeats(alloc: Global, arc: &[Pos]) -> Result<Items<Pos>, OutOfMe
     Ok(Items::from_vec(positions))
 }
 
-fn arcs_without_repeats(alloc: Global, arcs: &TextArcs) -> Result<Vec<Items<Pos>>, OutOfMemory>
+fn arcs_without_repeats(alloc: Global, arcs: &[Items<Pos>]) -> Result<Vec<Items<Pos>>, OutOfMemory>
     ensures { IfOk result (λ v. v.items ≡ map (collapsed position_cmp) arcs.now) }
 {
     let mut made = Vec::with_capacity(alloc, arcs.len())?;
-    for number in 0..arcs.len() {
-        let Some(arc) = arcs.arc(number) else {
-            return Ok(made);
-        };
-        made.push(arc_without_repeats(alloc, arc)?)?;
+    for arc in arcs {
+        made.push(arc_without_repeats(alloc, arc.as_slice())?)?;
     }
     Ok(made)
 }
@@ -111,17 +105,16 @@ impl NewLists for LongArcs<'_> {
 /// Where memory is refused.
 pub fn without_repeats(
     alloc: Global,
-    arcs: &TextArcs,
+    arcs: &[Items<Pos>],
     layers: &[Layer],
 ) -> Result<Option<WithoutRepeats>, OutOfMemory>
     ensures some { IfOk result (λ o. is_some o ≡ spec.some_repeats arcs.now) }
-    ensures without { IfOk result (λ o. IfSome o (λ w. AreWithoutRepeats arcs.now layers.now w.arcs w.layers.items)) }
+    ensures without { IfOk result (λ o. IfSome o (λ w. AreWithoutRepeats arcs.now layers.now w.arcs.items w.layers.items)) }
 {
     if !some_repeats(arcs) {
         return Ok(None);
     }
     let arcs = arcs_without_repeats(alloc, arcs)?;
     let layers = layers_copied(alloc, &LongArcs { arcs: &arcs }, layers)?;
-    let arcs = TextArcs::from_list(arcs);
     Ok(Some(WithoutRepeats { arcs, layers }))
 }

@@ -5,6 +5,7 @@ ghost use Rattle.std.specs.Prelude.{◌≡◌, IfOk, IfSome, List, Some, slice_g
 
 use crate::arc_lines::{id_of, map_of_arcs};
 use crate::stitches::stitch_to;
+use arcs::HavePieces;
 use chains::{ArcRef, ArcTable};
 use faults::OutOfMemory;
 use grid::Grid;
@@ -12,7 +13,6 @@ use grid::pos::Pos;
 use lines::items::Items;
 use std::alloc::{AllocError, Global};
 use topo::{Geom, Layer, Topology};
-use validate::accept::TextArcs;
 
 /// A table in which each stretch of the arcs of a text is an arc once, and for each arc of the text its
 /// pieces: none where the arc is not used, or is not what its pieces stitch to.
@@ -20,6 +20,17 @@ use validate::accept::TextArcs;
 pub(crate) struct Split {
     pub(crate) table: ArcTable,
     pub(crate) pieces: Vec<Items<ArcRef>>,
+}
+
+impl HavePieces for Split {
+    ghost pieces_of = { λ s. s.pieces.items };
+
+    fn pieces(&self, number: usize) -> Option<&[ArcRef]> {
+        match self.pieces.get(number) {
+            Some(pieces) => Some(pieces.as_slice()),
+            None => None,
+        }
+    }
 }
 
 /// The used arcs of a geometry's lines, one after the other.
@@ -72,37 +83,21 @@ fn checked_pieces(alloc: Global, table: &ArcTable, arc: &[Pos], found: Vec<ArcRe
     }
 }
 
-/// The pieces that were found of the arc of a number, if they stitch to it.
-fn pieces_of_number(
-    alloc: Global,
-    table: &ArcTable,
-    arcs: &TextArcs,
-    number: usize,
-    found: Vec<ArcRef>,
-) -> Vec<ArcRef>
-    ensures { (c : List place) → slice_get arcs.now number ≡ Some c → ArePieces table.now.arcs c result.items }
-{
-    match arcs.arc(number) {
-        Some(arc) => checked_pieces(alloc, table, arc, found),
-        None => found,
-    }
-}
-
 /// The pieces of each arc, by geometries whose ids are the numbers of arcs.
 fn all_pieces(
     alloc: Global,
     table: &ArcTable,
-    arcs: &TextArcs,
+    arcs: &[Items<Pos>],
     geometries: &[Geom],
 ) -> Result<Vec<Items<ArcRef>>, OutOfMemory>
     ensures { IfOk result (λ v. AreSplit table.now.arcs arcs.now v.items) }
 {
     let mut pieces = Vec::with_capacity(alloc, arcs.len())?;
     let mut left = geometries;
-    for number in 0..arcs.len() {
+    for (number, arc) in arcs.iter().enumerate() {
         let found = found_pieces(alloc, left, number)?;
         left = behind_number(left, number);
-        let checked = pieces_of_number(alloc, table, arcs, number, found);
+        let checked = checked_pieces(alloc, table, arc.as_slice(), found);
         pieces.push(Items::from_vec(checked))?;
     }
     Ok(pieces)
@@ -121,7 +116,7 @@ impl Split {
     /// meet, and at the least vertex of each.
     pub(crate) fn of(
         alloc: Global,
-        arcs: &TextArcs,
+        arcs: &[Items<Pos>],
         layers: &[Layer],
     ) -> Result<Option<Split>, OutOfMemory>
         ensures { IfOk result (λ o. IfSome o (λ s. AreSplit s.table.arcs arcs.now s.pieces.items)) }
@@ -130,7 +125,7 @@ impl Split {
             return Ok(None);
         };
         let map = map_of_arcs(alloc, arcs, layers)?;
-        let (table, built) = Topology::build(alloc, &grid, &map)?.into_parts();
+        let (table, built) = Topology::build_owned(alloc, &grid, map)?.into_parts();
         let pieces = all_pieces(alloc, &table, arcs, first_geometries(&built))?;
         Ok(Some(Split { table, pieces }))
     }

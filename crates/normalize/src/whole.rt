@@ -9,9 +9,11 @@ use crate::lists::HealedLists;
 use crate::split::Split;
 use chains::ArcTable;
 use faults::OutOfMemory;
+use grid::pos::Pos;
+use lines::items::Items;
 use std::alloc::Global;
 use topo::Layer;
-use validate::accept::{TextArcs, line_ends};
+use validate::accept::line_ends;
 
 /// Arcs that are noded and healed, in order, each in its lesser direction and a free loop begun at its least
 /// vertex; and layers by these arcs.
@@ -32,7 +34,7 @@ pub struct Normalized {
 /// Where memory is refused.
 pub fn normalize(
     alloc: Global,
-    arcs: &TextArcs,
+    arcs: &[Items<Pos>],
     layers: &[Layer],
 ) -> Result<Option<Normalized>, OutOfMemory>
     ensures kept { IfOk result (λ o. IfSome o (λ n. KeepLayers arcs.now n.arcs.arcs layers.now n.layers.items)) }
@@ -41,7 +43,7 @@ pub fn normalize(
     let Some(split) = Split::of(alloc, arcs, layers)? else {
         return Ok(None);
     };
-    let ends = line_ends(alloc, arcs, layers)?;
+    let ends = line_ends(alloc, &arcs, layers)?;
     let Some(joined) = healed_arcs(alloc, &split.table, &ends)? else {
         return Ok(None);
     };

@@ -3,7 +3,6 @@ ghost use Rattle.noshinka.specs.Differing.{IsComparisonText, IsDiffAsked, IsDiff
 ghost use Rattle.std.specs.Option.{option_copied};
 ghost use Rattle.std.specs.Prelude.{IfErr, IfOk};
 
-use crate::making::on_one_grid;
 use crate::topologies::topology_of;
 use c_calls::options::{flag, scope_named};
 use c_calls::refusal::CallRefusal;
@@ -23,7 +22,7 @@ fn text_of_difference(
     ensures made { IfOk result (λ t. IsComparisonText old.now new.now (option_copied options.now.layer) (option_copied options.now.key) options.now.json t.items) }
     ensures refused { IfErr result (IsTopologiesRefusal old.now new.now (option_copied options.now.layer)) }
 {
-    if !on_one_grid(old, new) {
+    if !old.is_on_grid_of(new) {
         return Err(CallRefusal::OtherGrid(1));
     }
     let mut kept = Kept::new(alloc);

@@ -4,7 +4,6 @@ ghost use Rattle.shapes.specs.Maps.{Layers};
 ghost use Rattle.std.specs.Prelude.{◌≡◌, IfErr, IfOk, OnOk};
 ghost use Rattle.topo.specs.OfMap.{IsOf};
 
-use crate::making::on_one_grid;
 use crate::topologies::topology_of;
 use c_calls::options::flag;
 use c_calls::refusal::CallRefusal;
@@ -46,7 +45,7 @@ fn edit_of_change(
 {
     let is_removal = flag(change.kind)?;
     let other = topology_of(alloc, place, change.text)?;
-    if !on_one_grid(topology, &other) {
+    if !topology.is_on_grid_of(&other) {
         return Err(CallRefusal::OtherGrid(place));
     }
     Ok(edit_of(alloc, other, is_removal)?)

@@ -50,13 +50,6 @@ pub(crate) fn merge(alloc: Global, texts: &[&[u8]]) -> Result<Vec<u8>, CallRefus
     }
 }
 
-/// Whether two topologies are on one grid.
-pub(crate) fn on_one_grid(topology: &Topology, removed: &Topology) -> bool
-    ensures { (result ≡ true) ↔ (topology.now.grid ≡ removed.now.grid) }
-{
-    topology.grid() == removed.grid()
-}
-
 /// The canonical text of a topology without the features of another one.
 #[tactic(auto, using(crate::proofs::Removals::rest_text))]
 fn text_without(
@@ -67,7 +60,7 @@ fn text_without(
     ensures removed { IfOk result (λ t. IsTextWithout topology.now removed.now t.items) }
     ensures refused { IfErr result (IsOtherGrid topology.now.grid removed.now.grid) }
 {
-    if !on_one_grid(topology, removed) {
+    if !topology.is_on_grid_of(removed) {
         return Err(CallRefusal::OtherGrid(1));
     }
     match remove_topology(alloc, topology, removed) {

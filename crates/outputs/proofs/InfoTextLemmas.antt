@@ -2,7 +2,7 @@
 use Rattle.std.proofs.Common.{◌≡◌, ℕ, ℤ, Bool, List, ◌++◌, ap, ◌∙◌, codes, decimal, length, Option}
 use Rattle.std.specs.Prelude.{cond, map as map_list, nat_eq, sum}
 use Rattle.grid.specs.Place.{Transform}
-use Rattle.query.specs.Info.{free_below, kinds_of}
+use Rattle.query.specs.Info.{free_count, kinds_of}
 use Rattle.query.specs.declared.info.Kinds.{Kinds}
 use Rattle.shapes.specs.Parts.{spelled_text}
 use Rattle.shapes.specs.Spelling.{spelling_of}
@@ -35,7 +35,7 @@ layer_object_is l {n} {m} {s} {gs} {k} {kinds} bytes spelled name e count counte
 
 -- the lines of a topology, of its parts and counts
 pub lines_is : (t : TopologyParts) {g : Transform} {s d : ℤ × ℤ} {b : Option Corners} {a p f : ℕ} {ls : List LayerParts} → g ≡ t.grid → s ≡ scales_of g → d ≡ translations_of g → b ≡ t.bbox
-    → a ≡ length t.arcs.arcs → p ≡ sum (map_list length t.arcs.arcs) → f ≡ free_below t.arcs (length t.arcs.arcs) → ls ≡ t.layers
+    → a ≡ length t.arcs.arcs → p ≡ sum (map_list length t.arcs.arcs) → f ≡ free_count t.arcs → ls ≡ t.layers
     → grid_lines s d b ++ (arc_lines a p f ++ each_text layer_line ls) ≡ info_lines t
 lines_is t {g} {s} {d} {b} {a} {p} {f} {ls} grid scales translations bbox arcs positions free layers =
     let scaled : s ≡ scales_of t.grid = scales ∙ ap scales_of grid in
@@ -44,7 +44,7 @@ lines_is t {g} {s} {d} {b} {a} {p} {f} {ls} grid scales translations bbox arcs p
 
 -- and its object
 pub json_is : (t : TopologyParts) {g : Transform} {s d : ℤ × ℤ} {b : Option Corners} {a p f : ℕ} {ls : List LayerParts} → g ≡ t.grid → s ≡ scales_of g → d ≡ translations_of g → b ≡ t.bbox
-    → a ≡ length t.arcs.arcs → p ≡ sum (map_list length t.arcs.arcs) → f ≡ free_below t.arcs (length t.arcs.arcs) → ls ≡ t.layers
+    → a ≡ length t.arcs.arcs → p ≡ sum (map_list length t.arcs.arcs) → f ≡ free_count t.arcs → ls ≡ t.layers
     → arc_members a b f ++ ((codes ",\"layers\":[" ++ joined layer_object ls) ++ ((codes "],\"positions\":" ++ decimal p) ++ transform_member s d)) ≡ info_json t
 json_is t {g} {s} {d} {b} {a} {p} {f} {ls} grid scales translations bbox arcs positions free layers =
     let scaled : s ≡ scales_of t.grid = scales ∙ ap scales_of grid in

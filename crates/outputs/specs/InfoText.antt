@@ -2,7 +2,7 @@
 use Rattle.std.specs.Prelude.{ℕ, ℤ, Bool, true, false, List, [], ◌++◌, None, Option, Some, codes, cond, decimal, length, map as map_list, nat_eq, nat_lt, sum}
 use Rattle.arcs.specs.Arcs.{Arcs}
 use Rattle.grid.specs.Place.{Transform}
-use Rattle.query.specs.Info.{free_below, kinds_of}
+use Rattle.query.specs.Info.{free_count, kinds_of}
 use Rattle.query.specs.declared.info.Kinds.{Kinds}
 use Rattle.shapes.specs.Parts.{spelled_text}
 use Rattle.shapes.specs.Spelling.{spelling_of}
@@ -62,7 +62,7 @@ layer_line l = codes "layer " ++ (spelling_of (spelled_text l.name) ++ (codes ":
 abbrev pub info_lines : TopologyParts → List ℕ
 info_lines t =
     grid_lines (scales_of t.grid) (translations_of t.grid) t.bbox
-    ++ (arc_lines (length t.arcs.arcs) (sum (map_list length t.arcs.arcs)) (free_below t.arcs (length t.arcs.arcs)) ++ each_text layer_line t.layers)
+    ++ (arc_lines (length t.arcs.arcs) (sum (map_list length t.arcs.arcs)) (free_count t.arcs) ++ each_text layer_line t.layers)
 
 -- the member bbox, behind a comma
 abbrev pub bbox_member : Corners → List ℕ
@@ -93,7 +93,7 @@ transform_member scales translations =
 -- the same as one JSON object, with its members in byte order
 abbrev pub info_json : TopologyParts → List ℕ
 info_json t =
-    arc_members (length t.arcs.arcs) t.bbox (free_below t.arcs (length t.arcs.arcs))
+    arc_members (length t.arcs.arcs) t.bbox (free_count t.arcs)
     ++ ((codes ",\"layers\":[" ++ joined layer_object t.layers)
     ++ ((codes "],\"positions\":" ++ decimal (sum (map_list length t.arcs.arcs))) ++ transform_member (scales_of t.grid) (translations_of t.grid)))
 

@@ -4,7 +4,7 @@ use Rattle.std.specs.Prelude.{map as map_list}
 use Rattle.std.specs.Cmp.{on_total}
 use Rattle.std.specs.FinMap as map
 use Rattle.std.specs.List.Sorted.{IsPermutation, IsSorted}
-use Rattle.std.proofs.lemmas.List.{map-append}
+use Rattle.std.proofs.lemmas.List.{drop_all, map-append}
 use Rattle.std.proofs.lemmas.List.Sorted.{IsPermutation-sym}
 use Rattle.grid.specs.declared.pos.Pos.{Pos}
 use Rattle.shapes.specs.Maps.{Layers, features_at}
@@ -27,7 +27,6 @@ use Rattle.topo.proofs.Pairs.{none_behind, pair_at}
 use Rattle.topo.proofs.Stitched.{geometries_of}
 use Rattle.query.specs.Members.{held, paired, layer_pairs, AreLayersIn, Holds, InOrder, AreMembers, ArePairs}
 use Rattle.query.specs.declared.members.Member.{Member}
-use Rattle.chains.proofs.Siding.{none_left}
 use Rattle.query.proofs.LayerFeatures.{OfFeatures, entry_layer, key_entry, layer_form, named_features}
 
 -- a feature and its body put behind the others
@@ -65,7 +64,7 @@ layers_step m t of ls some i l gs is ms new start less at put left =
 
 -- where none are left
 pub all_gathered : {A B : Type 0} (f : A → List B) (xs : List A) (i : ℕ) (made all : List B) → length xs ≤ i → made ++ gathered f (drop i xs) ≡ all → made ≡ all
-all_gathered f xs i made all k left = sym (append-nil made) ∙ ap (λ w. made ++ gathered f w) (sym (none_left xs i k)) ∙ left
+all_gathered f xs i made all k left = sym (append-nil made) ∙ ap (λ w. made ++ gathered f w) (sym (drop_all i xs k)) ∙ left
 
 module _ (m : Layers) (t : TopologyParts) (of : IsOf m t) where
   pair_members : (fs : List Feature) (gs : List Geom) → OfFeatures m t of fs gs → (f : Feature) (b : Body) → Has (f, b) (paired fs gs) → Has f fs × Holds m t f b

@@ -12,7 +12,6 @@ pub mod Choosing
 pub mod Holding
 pub mod Asked
 pub mod Classes
-pub mod Values
 pub mod Using
 pub mod Meshing
 pub mod Vertices
@@ -20,7 +19,6 @@ pub mod Ending
 pub mod Halting
 pub mod NetworkMaps
 pub mod ChosenArcs
-pub mod Counting
 pub mod PartedAt
 pub mod Turns
 pub mod Texts

@@ -1,12 +1,10 @@
 -- Which features differ in a property, the borders between them, and which of them are neighbours.
-use Rattle.std.specs.Prelude.{◌≡◌, ◌↔◌, ◌⊎◌, ℕ, List, [], ◌∷◌, ◌++◌, Option, Some, None, cond, is_some, length, map, option_map, slice_get, unwrap_or}
+use Rattle.std.specs.Prelude.{◌≡◌, ◌↔◌, ◌⊎◌, ℕ, List, [], ◌∷◌, ◌++◌, Option, Some, None, cond, is_some, length, map, slice_get, unwrap_or}
 use Rattle.std.specs.List.Sorted.{IsStrictlyIncreasing}
 use Rattle.std.specs.Str.{bytes_eq}
-use Rattle.serde_json.specs.Find.{get}
-use Rattle.serde_json.specs.Written.{compact_text}
 use Rattle.grid.specs.declared.pos.Pos.{Pos}
 use Rattle.shapes.specs.Parts.{properties_text}
-use Rattle.shapes.specs.Properties.{properties_value}
+use Rattle.shapes.specs.PropertyValues.{property_text}
 use Rattle.shapes.specs.declared.feature.Feature.{Feature}
 use Rattle.shapes.specs.declared.props.Props.{Props}
 use Rattle.arcs.specs.Arcs.{Arcs}
@@ -22,9 +20,9 @@ use Rattle.query.specs.Neighbors.{AreNeighbors}
 use Rattle.query.specs.Uses.{body_uses}
 use Rattle.query.specs.declared.uses.Use.{Use}
 
--- the compact text of the value that the properties have under the name, if they have one
+-- the compact text of the value that the properties have under the name, if they have one that is not null
 abbrev pub value_text : List ℕ → Props → Option (List ℕ)
-value_text name p = option_map compact_text (get name (properties_value (properties_text p)))
+value_text name p = property_text name (properties_text p)
 
 -- both are a value, the same
 abbrev pub AreOneValue : Option (List ℕ) → Option (List ℕ) → Type 0

@@ -1,7 +1,8 @@
 -- What a topology is made of, in numbers.
-use Rattle.std.specs.Prelude.{ℕ, zero, suc, ◌+◌, Bool, true, false, List, [], ◌∷◌}
+use Rattle.std.specs.Prelude.{ℕ, ◌+◌, Bool, true, false, List, [], ◌∷◌}
+use Rattle.std.specs.List.{sum_by}
 use Rattle.arcs.specs.Arcs.{Arcs}
-use Rattle.arcs.specs.Table.{free_at}
+use Rattle.arcs.specs.Table.{with_loops}
 use Rattle.topo.specs.Bodies.{Body}
 use Rattle.shapes.specs.declared.form.Form.TheVariants as of
 use Rattle.topo.specs.declared.geom.Geom.{Geom}
@@ -12,10 +13,9 @@ abbrev pub one_if : Bool → ℕ
 one_if true = 1
 one_if false = 0
 
--- how many of the arcs with the numbers below n are marked as free loops
-abbrev pub free_below : Arcs → ℕ → ℕ
-free_below t zero = 0
-free_below t (suc n) = free_below t n + one_if (free_at t n)
+-- how many arcs are marked as free loops
+abbrev pub free_count : Arcs → ℕ
+free_count t = sum_by (λ a. one_if a.1) (with_loops t)
 
 -- no geometries
 abbrev pub no_kinds : Kinds

@@ -1,8 +1,7 @@
 //! What a topology is made of, in numbers.
-ghost use Rattle.query.specs.Info.{free_below, kinds_of, one_more, total};
+ghost use Rattle.query.specs.Info.{free_count, kinds_of, one_more, total};
 ghost use Rattle.std.specs.Prelude.{◌≡◌, ◌<◌, ◌^◌, length, map, sum};
 
-use crate::writer::line_at;
 use chains::ArcTable;
 use topo::{Body, Geom, Topology};
 
@@ -40,18 +39,18 @@ fn count_positions(arcs: &ArcTable) -> u128
     ensures { result ≡ sum (map length arcs.now.arcs) }
 {
     let mut positions = 0;
-    for number in 0..arcs.len() {
-        positions += line_at(arcs, number).len() as u128;
+    for arc in arcs.iter() {
+        positions += arc.len() as u128;
     }
     positions
 }
 
 fn count_free(arcs: &ArcTable) -> usize
-    ensures { result ≡ free_below arcs.now (length arcs.now.arcs) }
+    ensures { result ≡ free_count arcs.now }
 {
     let mut free = 0;
-    for number in 0..arcs.len() {
-        if arcs.is_free(number) {
+    for (_, is_free) in arcs.with_loops() {
+        if is_free {
             free += 1;
         }
     }
@@ -63,7 +62,7 @@ fn count_free(arcs: &ArcTable) -> usize
 pub fn count_arcs(topology: &Topology) -> ArcCounts
     ensures arcs { result.arcs ≡ length topology.now.arcs.arcs }
     ensures positions { result.positions ≡ sum (map length topology.now.arcs.arcs) }
-    ensures free { result.free ≡ free_below topology.now.arcs (length topology.now.arcs.arcs) }
+    ensures free { result.free ≡ free_count topology.now.arcs }
 {
     let arcs = topology.arcs();
     ArcCounts {

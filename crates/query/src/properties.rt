@@ -1,27 +1,13 @@
 //! Values of a property, and which geometries have one value.
-ghost use Rattle.query.specs.ByProperty.{AreClasses, class_in, known_then, value_text as text_of_value, values_of};
+ghost use Rattle.query.specs.ByProperty.{AreClasses, class_in, known_then, values_of};
 ghost use Rattle.query.specs.EachOnce.{borrowed};
 ghost use Rattle.std.specs.BTreeMap.{get_by_text};
 ghost use Rattle.std.specs.Prelude.{◌≡◌, IfOk, List, OnOk, option_map, string_bytes, ℕ};
 
-use serde_json::Value;
-use shapes::props::Props;
+use faults::OutOfMemory;
 use std::alloc::{AllocError, Global};
 use std::collections::BTreeMap;
 use topo::Geom;
-
-/// The compact text of a property's value; None where there is no such property.
-fn value_text(alloc: Global, props: &Props, property: &str) -> Result<Option<String>, AllocError>
-    ensures { IfOk result (λ o. option_map string_bytes o ≡ text_of_value property.now props.now) }
-{
-    let Ok(object) = Value::from_str(alloc, props.text()) else {
-        return Err(AllocError);
-    };
-    match object.get(property) {
-        Some(value) => Ok(Some(value.to_string(alloc)?)),
-        None => Ok(None),
-    }
-}
 
 /// The class of the value at an index: the first index with this value, or the index itself where there is none.
 fn class_at(
@@ -47,13 +33,13 @@ pub(crate) fn classes_of(
     alloc: Global,
     geometries: &[&Geom],
     property: &str,
-) -> Result<Vec<usize>, AllocError>
+) -> Result<Vec<usize>, OutOfMemory>
     ensures { IfOk result (λ v. AreClasses (values_of property.now (borrowed geometries.now)) v.items) }
 {
     let mut known = BTreeMap::new(alloc);
     let mut classes = Vec::new(alloc);
     for index in 0..geometries.len() {
-        let value = value_text(alloc, &geometries[index].props, property)?;
+        let value = geometries[index].props.value_text(alloc, property)?;
         classes.push(class_at(&mut known, index, value)?)?;
     }
     Ok(classes)

@@ -6,7 +6,6 @@ ghost use Rattle.sinks.specs.Texts.{joined, list_text};
 ghost use Rattle.sinks.specs.Writes.{TookAll, TookPart};
 ghost use Rattle.std.specs.Fmt.{decimal};
 ghost use Rattle.std.specs.Prelude.{◌≡◌, map, slice_get, OnErr, OnOk};
-ghost use Rattle.topo.specs.Points.{arc_at};
 
 use chains::ArcTable;
 use geojson_io::writer::{Geometry, JoinedPlaces};
@@ -16,16 +15,6 @@ use shapes::shape::Id;
 use sinks::written::{Bracketed, Listed, Notation, Number, Text, Then, Written};
 use sinks::{Sink, WriteFault, put};
 use topo::Geom;
-
-/// The line of a number, empty past the last.
-pub(crate) fn line_at(lines: &ArcTable, number: usize) -> &[Pos]
-    ensures { result.now ≡ arc_at lines.now.arcs number }
-{
-    match lines.arc(number) {
-        Some(line) => line,
-        None => &[],
-    }
-}
 
 /// The lines of a table in order, as lists of places, with commas between them.
 #[derive(Clone, Copy)]

@@ -90,11 +90,6 @@ module _ (u : Layers) (table : List (List Pos)) where
 pub parts_of : (m : Layers) (t : TopologyParts) → IsOf m t → ArePartsOf m t.arcs t.layers
 parts_of m t h = record { table = h.table; layers = h.topology.layers }
 
--- one more map and its parts
-pub parts_more : (m : Layers) (t : Arcs) (ls : List LayerParts) (ms : List Layers) (ts : List Arcs) (lists : List (List LayerParts)) → ArePartsOf m t ls → ArePartsOfAll ms ts lists →
-    ArePartsOfAll (m ∷ ms) (t ∷ ts) (ls ∷ lists)
-parts_more m t ls ms ts lists h k = (h, k)
-
 pub no_items : {A : Type 0} (l : List A) → length l ≡ 0 → l ≡ []
 no_items [] h = refl
 no_items (x ∷ l) h = absurd (omega (arith, h))

@@ -1,13 +1,13 @@
 //! The join of two topologies: their arcs are cut again, their geometries follow the pieces, and
 //! the sorted layers and geometries of both are merged in one pass.
 ghost use Rattle.topo.specs.GeometryOrder.Noded.{AreNoded};
-ghost use Rattle.topo.specs.GeometryOrder.Noted.{IsNotedFor};
+ghost use Rattle.topo.specs.GeometryOrder.Noted.{IsRecordedFor};
 ghost use Rattle.topo.specs.LayerLaws.CutLayers.{before, behind, layer_cmp, layer_recut, layers_as_one, layers_merged, tied, to_first, with_other};
 ghost use Rattle.topo.specs.LayerLaws.Cuts as cuts;
 ghost use Rattle.topo.proofs.LayerLawsLemmas.ItsMap.{ItsMap, ItsMap-prop};
 ghost use Rattle.merging.specs.declared.fault.JoinFault.TheVariants.{OtherGrid};
-ghost use Rattle.split_heal.specs.SplitParts.{of_side};
 ghost use Rattle.shapes.specs.Maps.{Layers};
+ghost use Rattle.split_heal.specs.SplitParts.{of_side};
 ghost use Rattle.shapes.specs.Union.{union};
 ghost use Rattle.std.specs.Prelude.{◌≡◌, ◌↔◌, ◌<◌, ◌^◌, ◌++◌, length, IfOk, IfSome, IsErrOf, OnOk, Option, None, true, take, drop, map as map_list};
 ghost use Rattle.topo.specs.Features.{HasFeature};
@@ -16,7 +16,7 @@ ghost use Rattle.topo.specs.OfMap.{IsOf, IsOfSomeMap};
 ghost use Rattle.topo.specs.declared.geom.Geom.{Geom};
 
 use crate::fault::JoinFault;
-use chains::table::{ArcRef, ArcTable};
+use chains::table::ArcTable;
 use faults::OutOfMemory;
 use split_heal::{Recut, Side, recut_owned};
 use std::alloc::Global;
@@ -24,28 +24,7 @@ use std::cmp::Ordering;
 use std::collections::VecDeque;
 use std::marker::Model;
 use topo::geometry_order::GeometryOrder;
-use topo::{Geom, Layer, NewLists, Topology, layers_rewritten};
-
-/// The lists of a side by the new arcs.
-#[derive(Drop)]
-pub(crate) struct SideLists<'a> {
-    pub(crate) recut: &'a Recut,
-    pub(crate) side: Side,
-}
-
-impl NewLists for SideLists<'_> {
-    ghost line_of = { λ s. cuts.line_recut (of_side s.side s.recut.now) };
-
-    ghost ring_of = { λ s. cuts.ring_recut s.recut.now.arcs.arcs (of_side s.side s.recut.now) };
-
-    fn line(&self, alloc: Global, used: &[ArcRef]) -> Result<Vec<ArcRef>, OutOfMemory> {
-        self.recut.line(alloc, self.side, used)
-    }
-
-    fn ring(&self, alloc: Global, used: &[ArcRef]) -> Result<Vec<ArcRef>, OutOfMemory> {
-        self.recut.ring(alloc, self.side, used)
-    }
-}
+use topo::{Geom, Layer, Topology, layers_rewritten};
 
 /// The layers of a side by the new arcs.
 pub(crate) fn layers_recut(
@@ -56,7 +35,7 @@ pub(crate) fn layers_recut(
 ) -> Result<Vec<Layer>, OutOfMemory>
     ensures { IfOk result (λ v. v.items ≡ map_list (layer_recut recut.now.arcs.arcs (of_side side recut.now)) layers.items) }
 {
-    layers_rewritten(alloc, &SideLists { recut, side }, layers)
+    layers_rewritten(alloc, &recut.lists(side), layers)
 }
 
 /// The layers of both sides by the new arcs.
@@ -104,10 +83,10 @@ pub(crate) fn order_to_first_geometry(
     others: &VecDeque<Geom>,
 ) -> Result<Option<Ordering>, OutOfMemory>
     requires noded { AreNoded arcs.now.arcs }
-    requires noted { IsNotedFor arcs.now.arcs by.old }
+    requires recorded { IsRecordedFor arcs.now.arcs by.old }
     requires there { HasFeature arcs.now.arcs geometry.now }
     requires others_there { HaveFeatures arcs.now.arcs others.now.items }
-    ensures noted { IsNotedFor arcs.now.arcs by.new }
+    ensures recorded { IsRecordedFor arcs.now.arcs by.new }
     ensures order { IfOk result (λ o. o ≡ to_first (geometry_cmp arcs.now.arcs) geometry.now others.now.items) }
 {
     match others.front() {
@@ -130,10 +109,10 @@ fn put_before(
     merged: &mut Vec<Geom>,
 ) -> Result<(), OutOfMemory>
     requires noded { AreNoded arcs.now.arcs }
-    requires noted { IsNotedFor arcs.now.arcs by.old }
+    requires recorded { IsRecordedFor arcs.now.arcs by.old }
     requires there { HasFeature arcs.now.arcs geometry.now }
     requires others_there { HaveFeatures arcs.now.arcs others.old.items }
-    ensures noted { IsNotedFor arcs.now.arcs by.new }
+    ensures recorded { IsRecordedFor arcs.now.arcs by.new }
     ensures merged { OnOk result (merged.new.items ≡ merged.old.items ++ before (geometry_cmp arcs.now.arcs) geometry.now others.old.items) }
     ensures others { OnOk result (others.new.items ≡ behind (geometry_cmp arcs.now.arcs) geometry.now others.old.items) }
 {
@@ -158,10 +137,10 @@ fn geometries_merged(
     right: Vec<Geom>,
 ) -> Result<Vec<Geom>, OutOfMemory>
     requires noded { AreNoded arcs.now.arcs }
-    requires noted { IsNotedFor arcs.now.arcs by.old }
+    requires recorded { IsRecordedFor arcs.now.arcs by.old }
     requires left { HaveFeatures arcs.now.arcs left.items }
     requires right { HaveFeatures arcs.now.arcs right.items }
-    ensures noted { IsNotedFor arcs.now.arcs by.new }
+    ensures recorded { IsRecordedFor arcs.now.arcs by.new }
     ensures merged { IfOk result (λ v. v.items ≡ cuts.merged (geometry_cmp arcs.now.arcs) left.items right.items) }
 {
     let mut merged = Vec::with_capacity(alloc, left.len() + right.len())?;
@@ -218,10 +197,10 @@ fn layer_with(
     other: Option<Layer>,
 ) -> Result<Layer, OutOfMemory>
     requires noded { AreNoded arcs.now.arcs }
-    requires noted { IsNotedFor arcs.now.arcs by.old }
+    requires recorded { IsRecordedFor arcs.now.arcs by.old }
     requires there { HaveFeatures arcs.now.arcs layer.geometries }
     requires other { IfSome other (λ l. HaveFeatures arcs.now.arcs l.geometries) }
-    ensures noted { IsNotedFor arcs.now.arcs by.new }
+    ensures recorded { IsRecordedFor arcs.now.arcs by.new }
     ensures both { IfOk result (λ l. l ≡ with_other (layers_as_one arcs.now.arcs) layer other) }
 {
     let Some(other) = other else {
@@ -274,12 +253,6 @@ fn unite(alloc: Global, left: Topology, right: Topology) -> Result<Topology, Out
     Ok(Topology::from_parts_without_bbox(grid, arcs, layers))
 }
 
-pub(crate) fn on_one_grid(left: &Topology, right: &Topology) -> bool
-    ensures { (result ≡ true) ↔ (left.now.grid ≡ right.now.grid) }
-{
-    left.grid() == right.grid()
-}
-
 /// The topology of the features of both, which stay. It shares the positions of arcs that are not cut.
 ///
 /// # Errors
@@ -295,7 +268,7 @@ pub(crate) fn join_topologies(
     ensures few { IfOk result (λ t. length t.arcs.arcs < 2 ^ 63) }
     ensures other_grid { IsErrOf result OtherGrid ↔ ¬ (left.now.grid ≡ right.now.grid) }
 {
-    if !on_one_grid(left, right) {
+    if !left.is_on_grid_of(right) {
         return Err(JoinFault::OtherGrid);
     }
     let topology = unite(alloc, left.share(alloc)?, right.share(alloc)?)?;
@@ -370,7 +343,7 @@ pub(crate) fn join_shards_owned(alloc: Global, left: Cut, right: Cut) -> Result<
     ensures map { IfOk result (λ s. s.map ≡ union left.map right.map) }
     ensures other_grid { IsErrOf result OtherGrid ↔ ¬ (left.grid ≡ right.grid) }
 {
-    if !on_one_grid(left.topology(), right.topology()) {
+    if !left.topology().is_on_grid_of(right.topology()) {
         return Err(JoinFault::OtherGrid);
     }
     let topology = unite(alloc, left.topology, right.topology)?;

@@ -5,47 +5,24 @@ ghost use Rattle.merging.specs.Plans.{AreOnOneGrid, union_all};
 ghost use Rattle.merging.specs.declared.fault.JoinFault.TheVariants.{OtherGrid};
 ghost use Rattle.refine.specs.ManyLayers.{ArePartsOfAll, AreLayersOf, layers_in, layers_recut_from, maps_of};
 ghost use Rattle.shapes.specs.Maps.{Layers};
-ghost use Rattle.split_heal.specs.PartsOfAll.{of_table};
 ghost use Rattle.std.specs.Prelude.{◌≡◌, ◌<◌, ◌^◌, ◌↔◌, All, IfOk, IsErrOf, List, length};
 ghost use Rattle.theory.specs.Lists.{Pairwise};
 ghost use Rattle.topo.specs.GeometryOrder.Noded.{AreNoded};
-ghost use Rattle.topo.specs.LayerLaws.Cuts as cuts;
 ghost use Rattle.topo.specs.OfMap.{IsOf};
 
 use crate::cut::{Cut, layers_of_both};
 use crate::fault::JoinFault;
-use chains::table::{ArcRef, ArcTable};
+use chains::table::ArcTable;
 use faults::OutOfMemory;
 use grid::transform::Grid;
 use merging::{ByHalves, JoinMany, are_on_one_grid};
 use split_heal::{RecutAll, recut_all};
 use std::alloc::Global;
 use std::collections::VecDeque;
-use topo::{Layer, NewLists, Topology, layers_rewritten};
+use topo::{Layer, Topology, layers_rewritten};
 
 /// So many shards are joined two at a time: the boxes of two tables spare more than one index over both.
 const MOST_IN_PAIRS: usize = 2;
-
-/// The lists of a table by the new arcs.
-#[derive(Drop)]
-pub(crate) struct TableLists<'a> {
-    pub(crate) recut: &'a RecutAll,
-    pub(crate) table: usize,
-}
-
-impl NewLists for TableLists<'_> {
-    ghost line_of = { λ s. cuts.line_recut (of_table s.table s.recut.now) };
-
-    ghost ring_of = { λ s. cuts.ring_recut s.recut.now.arcs.arcs (of_table s.table s.recut.now) };
-
-    fn line(&self, alloc: Global, used: &[ArcRef]) -> Result<Vec<ArcRef>, OutOfMemory> {
-        self.recut.line(alloc, self.table, used)
-    }
-
-    fn ring(&self, alloc: Global, used: &[ArcRef]) -> Result<Vec<ArcRef>, OutOfMemory> {
-        self.recut.ring(alloc, self.table, used)
-    }
-}
 
 /// The arcs and the layers of shards.
 fn parts_of_all(
@@ -75,7 +52,7 @@ fn layers_by_new_arcs(
     let mut rewritten = VecDeque::with_capacity(alloc, lists.len())?;
     let mut table = 0;
     for layers in lists {
-        rewritten.push_back(layers_rewritten(alloc, &TableLists { recut, table }, layers)?)?;
+        rewritten.push_back(layers_rewritten(alloc, &recut.lists(table), layers)?)?;
         table += 1;
     }
     Ok(rewritten)

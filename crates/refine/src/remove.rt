@@ -5,7 +5,6 @@ ghost use Rattle.topo.specs.LayerLaws.LeftLists.{line_ends as ends_of_line};
 ghost use Rattle.topo.specs.LayerLaws.Less as spec;
 ghost use Rattle.topo.specs.LayerLaws.Less.{less};
 ghost use Rattle.arcs.specs.ArcMarks.{marks_set};
-ghost use Rattle.lines.specs.Turned.{position_cmp};
 ghost use Rattle.merging.specs.declared.fault.JoinFault.TheVariants.{OtherGrid};
 ghost use Rattle.refine.specs.LeftLists.{body_ends, layer_ends, layers_ends};
 ghost use Rattle.refine.specs.Borrowed.{all_borrowed, borrowed};
@@ -15,13 +14,11 @@ ghost use Rattle.shapes.specs.Maps.{Layers, features_at, set_of};
 ghost use Rattle.shapes.specs.Sets as set;
 ghost use Rattle.std.specs.Option.{option_map};
 ghost use Rattle.std.specs.Prelude.{◌≡◌, ◌<◌, ◌≤◌, ◌^◌, ◌++◌, ◌↔◌, length, false, true, replicate, IfOk, IsErrOf, IsNone, OnOk, map as map_list, slice_get};
-ghost use Rattle.theory.specs.Healing as joining;
 ghost use Rattle.topo.specs.Features.{HasFeature, IsKnownOf};
 ghost use Rattle.topo.specs.GeometryOrder.{HaveFeatures};
 ghost use Rattle.topo.specs.OfMap.{IsOf};
 ghost use Rattle.topo.specs.UsedArcs.{layer_refs, layers_refs};
 
-use crate::cut::on_one_grid;
 use crate::difference::layers_without;
 use crate::fault::JoinFault;
 use arcs::ArcMarks;
@@ -37,7 +34,7 @@ use std::alloc::Global;
 use std::cmp::Ordering;
 use std::collections::{BTreeSet, VecDeque};
 use std::marker::Model;
-use topo::{Body, Geom, Layer, NewLists, Topology, copy_rewritten, mark_body, stitching};
+use topo::{Body, Geom, Layer, Topology, copy_rewritten, mark_body, stitching};
 
 /// What is left of a topology, and the old arcs that each of its arcs is joined of.
 #[derive(Drop)]
@@ -87,7 +84,7 @@ impl Removal {
 
 /// A layer, and those of its geometries that stay.
 #[derive(Drop)]
-pub(crate) struct LayerLeft<'a> {
+pub(crate) struct RemainingLayer<'a> {
     pub(crate) name: &'a Spelled,
     pub(crate) geometries: Vec<&'a Geom>,
 }
@@ -142,7 +139,7 @@ fn is_next(
 }
 
 /// Those geometries of a sorted list whose features are none of the others.
-fn geometries_left<'a>(
+fn remaining_geometries<'a>(
     alloc: Global,
     topology: &Topology,
     geometries: &'a [Geom],
@@ -191,39 +188,39 @@ fn features_under<'a>(
 }
 
 /// A layer without the features that a map has under its name.
-fn layer_left<'a>(
+fn remaining_layer<'a>(
     alloc: Global,
     topology: &Topology,
     layer: &'a Layer,
     removed: &FeatureMap,
-) -> Result<LayerLeft<'a>, OutOfMemory>
+) -> Result<RemainingLayer<'a>, OutOfMemory>
     requires there { HaveFeatures topology.now.arcs.arcs layer.now.geometries }
     ensures { IfOk result (λ l. borrowed l ≡ layer_less topology.now.arcs.arcs removed.now layer.now) }
 {
     let features = features_under(alloc, removed, layer.name().text())?;
-    let geometries = geometries_left(alloc, topology, layer.geometries(), features)?;
-    Ok(LayerLeft {
+    let geometries = remaining_geometries(alloc, topology, layer.geometries(), features)?;
+    Ok(RemainingLayer {
         name: layer.name(),
         geometries,
     })
 }
 
 /// The layers of a topology without the features of a map.
-fn layers_left<'a>(
+fn remaining_layers<'a>(
     alloc: Global,
     topology: &'a Topology,
     removed: &FeatureMap,
-) -> Result<Vec<LayerLeft<'a>>, OutOfMemory>
+) -> Result<Vec<RemainingLayer<'a>>, OutOfMemory>
     ensures { IfOk result (λ v. all_borrowed v.items ≡ map_list (layer_less topology.now.arcs.arcs removed.now) topology.now.layers) }
 {
     let mut layers = Vec::with_capacity(alloc, topology.layers().len())?;
     for layer in topology.layers() {
-        layers.push(layer_left(alloc, topology, layer, removed)?)?;
+        layers.push(remaining_layer(alloc, topology, layer, removed)?)?;
     }
     Ok(layers)
 }
 
-fn mark_layer(kept: &mut ArcMarks, layer: &LayerLeft)
+fn mark_layer(kept: &mut ArcMarks, layer: &RemainingLayer)
     ensures { kept.new ≡ marks_set true kept.old (layer_refs (borrowed layer.now)) }
 {
     for geometry in &layer.geometries {
@@ -231,7 +228,7 @@ fn mark_layer(kept: &mut ArcMarks, layer: &LayerLeft)
     }
 }
 
-fn mark_layers(kept: &mut ArcMarks, layers: &[LayerLeft])
+fn mark_layers(kept: &mut ArcMarks, layers: &[RemainingLayer])
     ensures { kept.new ≡ marks_set true kept.old (layers_refs (all_borrowed layers.now)) }
 {
     for layer in layers {
@@ -240,7 +237,11 @@ fn mark_layers(kept: &mut ArcMarks, layers: &[LayerLeft])
 }
 
 /// A mark for each arc, set where a geometry that stays uses it.
-fn arcs_kept(alloc: Global, arcs: &ArcTable, layers: &[LayerLeft]) -> Result<ArcMarks, OutOfMemory>
+fn arcs_kept(
+    alloc: Global,
+    arcs: &ArcTable,
+    layers: &[RemainingLayer],
+) -> Result<ArcMarks, OutOfMemory>
     ensures { IfOk result (λ v. v ≡ marks_set true (replicate (length arcs.now.arcs) false) (layers_refs (all_borrowed layers.now))) }
 {
     let mut kept = ArcMarks::none(alloc, arcs.len())?;
@@ -283,7 +284,7 @@ fn add_ends_of_body(
 fn add_ends_of_layer(
     ends: &mut Vec<Pos>,
     topology: &Topology,
-    layer: &LayerLeft,
+    layer: &RemainingLayer,
 ) -> Result<(), OutOfMemory>
     ensures { OnOk result (ends.new.items ≡ ends.old.items ++ layer_ends topology.now.arcs.arcs (borrowed layer.now)) }
 {
@@ -297,7 +298,7 @@ fn add_ends_of_layer(
 fn line_ends(
     alloc: Global,
     topology: &Topology,
-    layers: &[LayerLeft],
+    layers: &[RemainingLayer],
 ) -> Result<Vec<Pos>, OutOfMemory>
     ensures { IfOk result (λ v. v.items ≡ layers_ends topology.now.arcs.arcs (all_borrowed layers.now)) }
 {
@@ -308,39 +309,18 @@ fn line_ends(
     Ok(ends)
 }
 
-/// The lists of what stays by the arcs that are joined again.
-#[derive(Drop)]
-struct JoinedLists<'a> {
-    joined: &'a HealedArcs,
-}
-
-impl NewLists for JoinedLists<'_> {
-    ghost line_of = { λ l. joining.healed_list (starts_by l.joined.now.pieces) 0 };
-
-    ghost ring_of = { λ l. joining.healed_ring_list position_cmp l.joined.now.arcs.arcs (starts_by l.joined.now.pieces) };
-
-    fn line(&self, alloc: Global, used: &[ArcRef]) -> Result<Vec<ArcRef>, OutOfMemory> {
-        self.joined.line(alloc, used)
-    }
-
-    fn ring(&self, alloc: Global, used: &[ArcRef]) -> Result<Vec<ArcRef>, OutOfMemory> {
-        self.joined.ring(alloc, used)
-    }
-}
-
 /// A layer that stays by the new arcs.
 fn layer_over_healed(
     alloc: Global,
     arcs: &HealedArcs,
-    layer: &LayerLeft,
+    layer: &RemainingLayer,
 ) -> Result<Layer, OutOfMemory>
     ensures { IfOk result (λ l. l ≡ spec.layer_over_healed arcs.now.arcs.arcs (starts_by arcs.now.pieces) (borrowed layer.now)) }
 {
     let name = layer.name.copy(alloc)?;
-    let lists = JoinedLists { joined: arcs };
     let mut geometries = Vec::with_capacity(alloc, layer.geometries.len())?;
     for geometry in &layer.geometries {
-        geometries.push(copy_rewritten(alloc, &lists, geometry)?)?;
+        geometries.push(copy_rewritten(alloc, arcs, geometry)?)?;
     }
     Ok(Layer::new(name, geometries))
 }
@@ -349,7 +329,7 @@ fn layer_over_healed(
 fn layers_over_healed(
     alloc: Global,
     arcs: &HealedArcs,
-    layers: &[LayerLeft],
+    layers: &[RemainingLayer],
 ) -> Result<Vec<Layer>, OutOfMemory>
     ensures { IfOk result (λ v. v.items ≡ map_list (spec.layer_over_healed arcs.now.arcs.arcs (starts_by arcs.now.pieces)) (all_borrowed layers.now)) }
 {
@@ -364,7 +344,7 @@ fn layers_over_healed(
 fn removal_of(
     alloc: Global,
     topology: &Topology,
-    left: &[LayerLeft],
+    left: &[RemainingLayer],
 ) -> Result<Removal, OutOfMemory>
     requires { (r : Layers) × (all_borrowed left.now ≡ map_list (layer_less topology.now.arcs.arcs r) topology.now.layers) }
     ensures grid { IfOk result (λ x. x.topology.grid ≡ topology.now.grid) }
@@ -397,7 +377,7 @@ pub fn remove(
     ensures pieces { IfOk result (λ r. (m : Layers) → IsOf m topology.now → IsWithoutBy m removed.now topology.now r) }
     ensures few { IfOk result (λ r. length r.topology.arcs.arcs < 2 ^ 63) }
 {
-    let left = layers_left(alloc, topology, removed)?;
+    let left = remaining_layers(alloc, topology, removed)?;
     removal_of(alloc, topology, &left)
 }
 
@@ -418,7 +398,7 @@ pub fn remove_topology(
     ensures few { IfOk result (λ r. length r.topology.arcs.arcs < 2 ^ 63) }
     ensures other_grid { IsErrOf result OtherGrid ↔ ¬ (topology.now.grid ≡ removed.now.grid) }
 {
-    if !on_one_grid(topology, removed) {
+    if !topology.is_on_grid_of(removed) {
         return Err(JoinFault::OtherGrid);
     }
     let left = layers_without(alloc, topology, removed)?;

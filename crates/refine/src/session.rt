@@ -62,7 +62,7 @@ impl Session {
         ensures grid { IfOk result (λ s. s.grid ≡ grid.now) }
         ensures map { IfOk result (λ s. s.map ≡ map.empty) }
     {
-        let topology = Topology::build(alloc, grid, &FeatureMap::new(alloc))?;
+        let topology = Topology::build_owned(alloc, grid, FeatureMap::new(alloc))?;
         let shard = Cut::of_topology(topology);
         Ok(Session { alloc, shard })
     }

@@ -18,7 +18,7 @@ pub trait Borrowed {
     /// Whether it is as it was made, as far as that is told without memory.
     fn is_as_before(&self) -> bool;
 
-    /// The same of what is told with memory alone; asked after want of it.
+    /// Whether it is as it was made, where memory is needed to see it; asked after want of it.
     fn is_as_made(&self, _alloc: Global) -> Answer {
         Answer::Right
     }
@@ -91,7 +91,7 @@ impl Tally {
         }
         let borrowed = make(rt.alloc());
         if borrowed.is_none() {
-            self.note(rt, title, name, Outcome::Unprepared);
+            self.count_call(rt, title, name, Outcome::Unprepared);
         }
         borrowed
     }
@@ -111,10 +111,10 @@ impl Tally {
             Outcome::Unprepared => call(rt.alloc(), borrowed),
             outcome => outcome,
         };
-        self.note(rt, title, name, outcome);
+        self.count_call(rt, title, name, outcome);
     }
 
-    /// The same of a call that only asks, and is asked again after want of memory.
+    /// Makes a call that only asks, and asks again after want of memory.
     pub fn ask<L: Borrowed, F: Fn(Global, &L) -> Answer>(
         &mut self,
         rt: &HostRuntime,
@@ -130,7 +130,7 @@ impl Tally {
         });
     }
 
-    /// The same of a call that tells whether it was right.
+    /// Makes a call that answers whether it was right.
     pub fn attempt<L: Borrowed, F: Fn(Global, &L) -> Result<bool, OutOfMemory>>(
         &mut self,
         rt: &HostRuntime,
@@ -158,7 +158,7 @@ impl Tally {
         requires { F.IsAlwaysCallable is_right }
     {
         let answer = Answer::of(is_right(borrowed));
-        self.note_without_memory(
+        self.record_without_memory(
             rt,
             title,
             name,

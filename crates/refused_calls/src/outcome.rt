@@ -104,7 +104,7 @@ impl Tally {
     }
 
     /// Counts a call, and names it where it went wrong.
-    pub fn note(&mut self, rt: &HostRuntime, title: &str, call: &str, outcome: Outcome) {
+    pub fn count_call(&mut self, rt: &HostRuntime, title: &str, call: &str, outcome: Outcome) {
         self.calls = self.calls.saturating_add(1);
         match outcome {
             Outcome::Right => {}
@@ -119,8 +119,8 @@ impl Tally {
         }
     }
 
-    /// The same of a call that takes no memory.
-    pub fn note_without_memory(
+    /// Counts a call that takes no memory, and names it where it went wrong.
+    pub fn record_without_memory(
         &mut self,
         rt: &HostRuntime,
         title: &str,
@@ -128,7 +128,7 @@ impl Tally {
         outcome: Outcome,
     ) {
         self.without_memory = self.without_memory.saturating_add(1);
-        self.note(rt, title, call, outcome);
+        self.count_call(rt, title, call, outcome);
     }
 
     /// Prints the counts. The status is 1 where a call went wrong, 5 where memory was wanting to the

@@ -418,6 +418,6 @@ pub fn build_maps<T: AsSlice<u8> + Drop>(
     let (maps, rounded) = round_maps(alloc, names, sources, rules)?;
     let layers = layer_names(alloc, names, rounded.origins.as_slice())?;
     let map = layers_of(alloc, layers, maps)?;
-    let topology = Topology::build(alloc, &rules.grid, &map)?;
+    let topology = Topology::build_owned(alloc, &rules.grid, map)?;
     Ok((topology, rounded))
 }

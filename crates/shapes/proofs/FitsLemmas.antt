@@ -1,6 +1,6 @@
 -- Features of entries that fit a grid.
-use Rattle.std.proofs.Common.{◌≡◌, ◌↔◌, ℕ, suc, ◌<◌, length, arith, cond, List, [], ◌∷◌, Bool, true, false, ◌||◌, Option, Some, None, refl, sym, ap, ◌∙◌, subst, string_bytes, option_map}
-use Rattle.std.specs.Prelude.{unwrap_or, All}
+use Rattle.std.proofs.Common.{◌≡◌, ℕ, suc, ◌<◌, length, arith, cond, List, [], ◌∷◌, Bool, true, false, ◌||◌, Some, None, refl, sym, ap, ◌∙◌, subst, string_bytes}
+use Rattle.std.specs.Prelude.{All}
 use Rattle.std.specs.List.{AllByRecursion, list_any}
 use Rattle.std.specs.Map.{lookup}
 use Rattle.std.specs.BTreeMap.{is_at}
@@ -8,14 +8,12 @@ use Rattle.std.specs.String.{string_cmp}
 use Rattle.std.specs.Cmp.{Equal-is, tied_itself}
 use Rattle.std.specs.Ordering.{eq_by_cmp, is_eq, nat_cmp}
 use Rattle.std.specs.Cmp.Lexicographic.{slice_cmp}
-use Rattle.std.specs.BTreeSet as sorted
 use Rattle.grid.specs.Place.{Transform}
 use Rattle.shapes.specs.Sets as set
 use Rattle.shapes.specs.SetLaws.{contains-empty}
 use Rattle.shapes.specs.Order.{feature_cmp}
 use Rattle.shapes.specs.OrderLaws.{feature_cmp_total, same_feature}
-use Rattle.shapes.specs.Maps.{Layers, set_of, features_at}
-use Rattle.shapes.specs.Inside.{layers_of, look, features_of}
+use Rattle.shapes.specs.Inside.{layers_of, look}
 use Rattle.shapes.specs.Fitting.{ShapeFits, MapFits}
 use Rattle.shapes.specs.declared.layer.FeatureLayer.{FeatureLayer}
 use Rattle.shapes.specs.declared.feature.Feature.{Feature}

@@ -1,24 +1,22 @@
 -- What the union of two feature maps holds.
-use Rattle.std.proofs.Common.{◌≡◌, ℕ, List, [], ◌∷◌, Bool, true, false, ◌||◌, cond, Option, Some, None, refl, sym, ◌∙◌, ap, string_bytes, option_map, is_some}
+use Rattle.std.proofs.Common.{◌≡◌, ℕ, List, ◌∷◌, true, false, ◌||◌, cond, Option, Some, None, refl, sym, ◌∙◌, ap, string_bytes, option_map, is_some}
 use Rattle.std.specs.Prelude.{unwrap_or}
 use Rattle.std.specs.Option.{option_or}
 use Rattle.std.specs.Ordering.{nat_cmp, is_eq}
 use Rattle.std.specs.Cmp.Lexicographic.{nat_list_cmp_total, slice_cmp}
-use Rattle.std.specs.declared.cmp.Ordering.{Ordering}
 use Rattle.std.specs.declared.cmp.Ordering.TheVariants.{Less, Equal, Greater}
 use Rattle.std.specs.declared.string.String.{String}
 use Rattle.std.specs.declared.alloc.Global.{Global}
 use Rattle.std.specs.BTreeSet as sorted
 use Rattle.std.specs.BTreeSet.{BTreeSet}
-use Rattle.std.specs.List.{list_any}
 use Rattle.std.specs.FinMap as map
 use Rattle.shapes.specs.Sets as set
 use Rattle.shapes.specs.SetLaws.{contains-union, contains-empty, same_set, or-false, contains-from_list}
-use Rattle.shapes.specs.Union.{both, union, get-union, union_empty}
+use Rattle.shapes.specs.Union.{both, union, get-union}
 use Rattle.shapes.specs.Order.{feature_cmp}
 use Rattle.shapes.specs.OrderLaws.{feature_cmp_total, same_feature, same_text}
 use Rattle.shapes.specs.Maps.{Features, Layers, set_of, features_at}
-use Rattle.shapes.specs.Inside.{layers_of, entry_of, look, features_of, features_if, united_at}
+use Rattle.shapes.specs.Inside.{layers_of, look, features_of, features_if, united_at}
 use Rattle.shapes.specs.declared.layer.FeatureLayer.{FeatureLayer}
 use Rattle.shapes.specs.declared.feature.Feature.{Feature}
 use Rattle.shapes.proofs.MapLemmas.{Entries, contains-set_of, get-layers}

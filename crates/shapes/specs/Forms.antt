@@ -1,9 +1,19 @@
 -- The points, lines and rings of a geometry, and geometries of other lines and rings.
-use Rattle.std.specs.Prelude.{List, [], ◌∷◌, map}
+use Rattle.std.specs.Prelude.{ℕ, List, [], ◌∷◌, codes, map}
 use Rattle.grid.specs.declared.pos.Pos.{Pos}
 use Rattle.theory.specs.Lists.{joined}
 use Rattle.shapes.specs.declared.form.Form.{Form}
 use Rattle.shapes.specs.declared.form.Form.TheVariants.{Null, Point, MultiPoint, Line, MultiLine, Polygon, MultiPolygon}
+
+-- the kind of a geometry, by its name in GeoJSON [RFC 7946, 3.1]
+abbrev pub kind_name : {L R : Type 0} → Form L R → List ℕ
+kind_name Null = codes "null"
+kind_name (Point p) = codes "Point"
+kind_name (MultiPoint ps) = codes "MultiPoint"
+kind_name (Line l) = codes "LineString"
+kind_name (MultiLine ls) = codes "MultiLineString"
+kind_name (Polygon rs) = codes "Polygon"
+kind_name (MultiPolygon ps) = codes "MultiPolygon"
 
 -- the points of a geometry [RFC 7946, 3.1]
 abbrev pub points_in : {L R : Type 0} → Form L R → List Pos
@@ -24,6 +34,16 @@ lines_in (Line l) = l ∷ []
 lines_in (MultiLine ls) = ls
 lines_in (Polygon rs) = []
 lines_in (MultiPolygon ps) = []
+
+-- the polygons of a geometry, each as the list of its rings [RFC 7946, 3.1]
+abbrev pub polygons_in : {L R : Type 0} → Form L R → List (List R)
+polygons_in Null = []
+polygons_in (Point p) = []
+polygons_in (MultiPoint ps) = []
+polygons_in (Line l) = []
+polygons_in (MultiLine ls) = []
+polygons_in (Polygon rs) = rs ∷ []
+polygons_in (MultiPolygon ps) = ps
 
 -- the rings of a geometry, polygon by polygon [RFC 7946, 3.1]
 abbrev pub rings_in : {L R : Type 0} → Form L R → List R

@@ -1,5 +1,6 @@
 pub mod Spelling
 pub mod Properties
+pub mod PropertyValues
 pub mod Parts
 pub mod Ids
 pub mod PropertyFaults

@@ -1,6 +1,6 @@
 -- Finite sets, as contracts see them: their members in order. A set is a finite map with nothing at each key,
 -- so `items` has the laws of a map's keys.
-use Rattle.std.specs.Prelude.{ℕ, Bool, List, [], ◌∷◌}
+use Rattle.std.specs.Prelude.{Bool, List, [], ◌∷◌}
 use Rattle.std.specs.declared.cmp.Ordering.{Ordering}
 use Rattle.std.specs.Coded.{Coded}
 use base.Stored.{coded_unit}

@@ -1,4 +1,5 @@
 //! The seven kinds of geometry, over any lines and any rings.
+ghost use Rattle.shapes.specs.Forms.{kind_name};
 ghost use Rattle.std.specs.Prelude.{◌≡◌, IfOk};
 
 use crate::copying::CopyIn;
@@ -34,6 +35,23 @@ impl<L: CopyIn, R: CopyIn> Form<L, R> {
             Form::MultiLine(lines) => Ok(Form::MultiLine(lines.copy_in(alloc)?)),
             Form::Polygon(rings) => Ok(Form::Polygon(rings.copy_in(alloc)?)),
             Form::MultiPolygon(polygons) => Ok(Form::MultiPolygon(polygons.copy_in(alloc)?)),
+        }
+    }
+}
+
+impl<L, R> Form<L, R> {
+    /// The kind's name in GeoJSON (RFC 7946, section 3.1).
+    pub fn kind_name(&self) -> &'static str
+        ensures { result.now ≡ kind_name self.now }
+    {
+        match self {
+            Form::Null => "null",
+            Form::Point(_) => "Point",
+            Form::MultiPoint(_) => "MultiPoint",
+            Form::Line(_) => "LineString",
+            Form::MultiLine(_) => "MultiLineString",
+            Form::Polygon(_) => "Polygon",
+            Form::MultiPolygon(_) => "MultiPolygon",
         }
     }
 }

@@ -1,5 +1,5 @@
 //! The points, lines and rings of a geometry.
-ghost use Rattle.shapes.specs.Forms.{lines_in, parts_in, points_in, rings_in};
+ghost use Rattle.shapes.specs.Forms.{lines_in, parts_in, points_in, polygons_in, rings_in};
 ghost use Rattle.std.specs.Iterator.{YieldsFirstRef, item_count};
 ghost use Rattle.std.specs.Prelude.{◌≡◌};
 
@@ -76,6 +76,17 @@ impl<L, R> Form<L, R> {
         }
     }
 
+    /// The polygons, each as the list of its rings; none of other kinds.
+    pub fn polygons(&self) -> &[Items<R>]
+        ensures { result.now ≡ polygons_in self.now }
+    {
+        match self {
+            Form::Polygon(rings) => slice::from_ref(rings),
+            Form::MultiPolygon(polygons) => polygons.as_slice(),
+            _ => &[],
+        }
+    }
+
     /// The lines, in order; none of other kinds.
     pub fn lines(&self) -> FormParts<'_, L>
         ensures { result ≡ lines_in self.now }
@@ -95,14 +106,10 @@ impl<L, R> Form<L, R> {
     pub fn rings(&self) -> FormParts<'_, R>
         ensures { result ≡ rings_in self.now }
     {
-        match self {
-            Form::Polygon(rings) => FormParts::of_list(rings.as_slice()),
-            Form::MultiPolygon(polygons) => FormParts {
-                first: None,
-                parts: &[],
-                groups: polygons.as_slice(),
-            },
-            _ => FormParts::of_list(&[]),
+        FormParts {
+            first: None,
+            parts: &[],
+            groups: self.polygons(),
         }
     }
 }
@@ -115,6 +122,19 @@ impl<T> Form<T, T> {
         match self {
             Form::Line(_) | Form::MultiLine(_) => self.lines(),
             _ => self.rings(),
+        }
+    }
+}
+
+impl<T, R> Form<Items<T>, R> {
+    /// The lines as a list; none of other kinds.
+    pub fn line_slice(&self) -> &[Items<T>]
+        ensures { result.now ≡ lines_in self.now }
+    {
+        match self {
+            Form::Line(line) => slice::from_ref(line),
+            Form::MultiLine(lines) => lines.as_slice(),
+            _ => &[],
         }
     }
 }

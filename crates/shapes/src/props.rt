@@ -2,10 +2,13 @@
 ghost use Rattle.json.specs.Lex.{tokens};
 ghost use Rattle.json.specs.Token.{tokens_code};
 ghost use Rattle.json.specs.Tree.{json_tokens};
-ghost use Rattle.serde_json.specs.Written.{outline};
+ghost use Rattle.serde_json.specs.View.{view};
+ghost use Rattle.serde_json.specs.Written.{has_float, outline};
 ghost use Rattle.shapes.specs.Properties.{is_properties, properties_value};
+ghost use Rattle.shapes.specs.PropertyValues.{text_of_value};
 ghost use Rattle.std.specs.Coded.{Coded-set, coded_bool};
-ghost use Rattle.std.specs.Prelude.{◌≡◌, true};
+ghost use Rattle.std.specs.Option.{option_map};
+ghost use Rattle.std.specs.Prelude.{◌≡◌, IfOk, Some, false, string_bytes, true};
 
 use crate::nesting::{GREATEST_PROPERTY_DEPTH, has_fraction, nests_within};
 use faults::OutOfMemory;
@@ -46,7 +49,9 @@ impl Props {
     ghost use Rattle.serde_json.specs.Written.{compact_text};
     ghost use Rattle.shapes.specs.Parts.{properties_text};
     ghost use Rattle.shapes.specs.PropertyFaults.{property_fault};
-    ghost use Rattle.std.specs.Prelude.{◌≢◌, IfOk, IfErr, None, Some, ◌↔◌, IsTrue, codes};
+    ghost use Rattle.shapes.specs.PropertyValues.{property_text};
+    ghost use Rattle.std.specs.Option.{option_map};
+    ghost use Rattle.std.specs.Prelude.{◌≢◌, IfOk, IfErr, None, Some, ◌↔◌, IsTrue, codes, string_bytes};
 
     /// The properties that the value is, or what is wrong with it: first that it is no object,
     /// then a number that is not whole, then its depth.
@@ -94,11 +99,37 @@ impl Props {
         self.text.as_str()
     }
 
+    /// The compact text of the value of a property; `None` where it is missing or null.
+    ///
+    /// # Errors
+    /// Where memory is refused.
+    pub fn value_text(&self, alloc: Global, name: &str) -> Result<Option<String>, OutOfMemory>
+        ensures { IfOk result (λ o. option_map string_bytes o ≡ property_text name.now (properties_text self.now)) }
+    {
+        let Ok(value) = Value::from_str(alloc, self.text()) else {
+            return Err(OutOfMemory);
+        };
+        match value.get(name) {
+            Some(found) => text_of(alloc, found),
+            None => Ok(None),
+        }
+    }
+
     /// Equal properties, or out of memory.
     pub fn copy(&self, alloc: Global) -> Result<Props, OutOfMemory>
         ensures { IfOk result (λ p. p ≡ self.now) }
     {
         let text = JsonText::from_string(String::from_str(alloc, self.text())?);
         Ok(Props { text })
+    }
+}
+
+/// The compact text of a value; `None` of null.
+fn text_of(alloc: Global, value: &Value) -> Result<Option<String>, OutOfMemory>
+    ensures { IfOk result (λ o. has_float (view value.now) ≡ false → option_map string_bytes o ≡ text_of_value (Some (view value.now))) }
+{
+    match value {
+        Value::Null => Ok(None),
+        _ => Ok(Some(value.to_string(alloc)?)),
     }
 }

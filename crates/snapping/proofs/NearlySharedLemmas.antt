@@ -1,4 +1,4 @@
 pub mod Sharing
 pub mod Tables
 pub mod Components
-pub mod Settling
+pub mod Clustering

@@ -1,5 +1,5 @@
--- What holds of all positions of two tables holds of those of their pieces.
-use Rattle.std.proofs.Common.{◌≡◌, ℕ, ◌+◌, Bool, true, false, cond, get_or, List, [], ◌∷◌, ◌++◌, map, inl, inr, refl, subst}
+-- What holds of all positions of tables holds of those of their pieces.
+use Rattle.std.proofs.Common.{◌≡◌, ℕ, ◌+◌, Bool, true, false, cond, get_or, List, [], ◌∷◌, map, inl, inr, refl, subst}
 use Rattle.theory.specs.Arcs.{AreSortedOnce}
 use Rattle.theory.specs.Lists.{Has, joined}
 use Rattle.theory.proofs.Lists.{Has-append}
@@ -14,7 +14,8 @@ use Rattle.chains.specs.ArcPieces.{pieces_under}
 use Rattle.arcs.specs.Placing.{whole_pieces, whole}
 use Rattle.arcs.specs.declared.piece.Piece.{Piece}
 use Rattle.chains.proofs.PartsHeld.{under_has}
-use Rattle.split_heal.specs.Cutting.{pieces_from, table_pieces}
+use Rattle.chains.specs.ManyTables.{arcs_of_all}
+use Rattle.split_heal.specs.Cutting.{pieces_from}
 
 module _ (may : Pos → Bool) where
   pub from_held : (js : List Pos) (marks : List Bool) (n : ℕ) (qs : List Piece) → ((q : Piece) → Has q qs → Holds may q.chain) →
@@ -39,17 +40,13 @@ module _ (may : Pos → Bool) where
         | inr m ↦ absurd m
       ]
 
-  -- the pieces of a table's arcs
-  of_table : (js : List Pos) (marks : List Bool) (t : Arcs) → HoldAll may t.arcs → (p : Piece) → Has p (table_pieces js marks t) → Holds may p.chain
-  of_table js marks t h = from_held js marks 0 (whole_pieces t) (whole_held t h)
+  -- the arcs of tables
+  pub arcs_held : (tables : List Arcs) → ((t : Arcs) → Has t tables → HoldAll may t.arcs) → (q : Piece) → Has q (arcs_of_all tables) → Holds may q.chain
+  arcs_held tables h q k = let g = gathered_from whole_pieces tables q k in whole_held g.0 (h g.0 g.1) q g.2
 
-  -- the arcs that the pieces of two tables are
-  pub pieces_held : (js : List Pos) (s t : Arcs) (marks others : List Bool) (ps : List Piece) (new : List (List Pos)) →
-      ps ≡ table_pieces js marks s ++ table_pieces js others t →
-      AreSortedOnce list_cmp (map chain_of ps) new → HoldAll may s.arcs → HoldAll may t.arcs → HoldAll may new
-  pieces_held js s t marks others ps new e once hs ht c h v k =
-      let p = map_has chain_of ps c (once.only c h) in
-      elim (Has-append p.0 (table_pieces js marks s) (table_pieces js others t) (subst (Has p.0) e p.1)) [
-        | inl l ↦ of_table js marks s hs p.0 l v (subst (Has v) p.2 k)
-        | inr r ↦ of_table js others t ht p.0 r v (subst (Has v) p.2 k)
-      ]
+  -- the arcs that the pieces are
+  pub pieces_held : (js : List Pos) (arcs : List Piece) (marks : List Bool) (ps : List Piece) (new : List (List Pos)) → ps ≡ joined (pieces_from js marks 0 arcs) →
+      AreSortedOnce list_cmp (map chain_of ps) new → ((q : Piece) → Has q arcs → Holds may q.chain) → HoldAll may new
+  pieces_held js arcs marks ps new e once h c k v z =
+      let p = map_has chain_of ps c (once.only c k) in
+      from_held js marks 0 arcs h p.0 (subst (Has p.0) e p.1) v (subst (Has v) p.2 z)

@@ -3,13 +3,11 @@ pub mod Parted
 pub mod Held
 pub mod TwoTables
 pub mod Lists
-pub mod ManyParted
 pub mod ManyRecut
 pub mod ProvedSplittingLaws
 pub mod ByUses
 pub mod Choices
 pub mod WalkedRuns
-pub mod WholeArcs
 pub mod PartnersMeet
 pub mod Pairing
 pub mod Partners

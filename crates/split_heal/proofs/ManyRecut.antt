@@ -3,7 +3,7 @@ use Rattle.std.proofs.Common.{◌≡◌, ℕ, zero, suc, Bool, true, false, List
 use Rattle.theory.specs.Arcs.{AreSortedOnce}
 use Rattle.theory.specs.Chain.{Free}
 use Rattle.theory.specs.Geometry.{Geometry, IsSound, IsLineOf, IsRingOf, JunctionOf}
-use Rattle.theory.specs.Lists.{Has, Pairwise, gathered}
+use Rattle.theory.specs.Lists.{Has, Pairwise, gathered, joined}
 use Rattle.theory.specs.Refinement.{Alike, ArePiecesOfArc, IsRefinementOf, unclosed}
 use Rattle.theory.proofs.ArcsAsMap.{turned_alike}
 use Rattle.theory.proofs.ListsOfLists.{Has-gathered, Pairwise-map, gathered_from, get_has}
@@ -15,7 +15,7 @@ use Rattle.arcs.specs.Among.{among}
 use Rattle.chains.specs.ArcPieces.{pieces_at, pieces_under}
 use Rattle.arcs.specs.Arcs.{Arcs}
 use Rattle.chains.specs.Index.{IsIndexOf}
-use Rattle.chains.specs.ManyTables.{AreTablesOf, IsUnionOfAll, all_as_map, arcs_of_all, lines_of_table, rings_of_table}
+use Rattle.chains.specs.ManyTables.{AreTablesOf, IsUnionOfAll, UnmarkedStayWhole, all_as_map, arcs_of_all, lines_of_table, rings_of_table}
 use Rattle.chains.specs.OfArcs.{open_in, loops_in}
 use Rattle.arcs.specs.Pieces.{chain_of}
 use Rattle.chains.specs.Pieces.{line_pieces, ring_pieces}
@@ -27,10 +27,12 @@ use Rattle.chains.proofs.ArcsCut.{table_alike}
 use Rattle.chains.proofs.ManyAlike.{all_alike, all_sound}
 use Rattle.chains.proofs.ManyTables.{EachIsTable, each_is, line_piece, piece_arc, piece_line, piece_ring, ring_piece}
 use Rattle.chains.proofs.TableOfMap.{are_pieces, line_list, ring_list}
-use Rattle.chains.proofs.TablesAsMap.{has_open, has_loop, told, free_loop}
-use Rattle.split_heal.specs.Cutting.{arc_used}
+use Rattle.chains.proofs.TablesAsMap.{has_open, has_loop, meant, free_loop}
+use Rattle.split_heal.specs.Bounds.{bounds_of, parts_between}
+use Rattle.split_heal.specs.Cutting.{arc_used, pieces_from}
 use Rattle.split_heal.specs.CuttingAll.{IsRecutOfAll}
 use Rattle.split_heal.specs.PartsOfAll.{RecutAllParts, of_table}
+use Rattle.split_heal.proofs.Parted.{all_pieces_are, table_lists}
 
 -- the pieces of a map that is alike u, and the arcs of one table among them
 module _ (js : List Pos) (a u : Geometry Pos) (sound : IsSound a) (alike : Alike a u) (index : IsIndexOf js a) (ps : List Piece)
@@ -43,7 +45,7 @@ module _ (js : List Pos) (a u : Geometry Pos) (sound : IsSound a) (alike : Alike
   cut c h = go (is_loop old.loops c) refl
     where
       not_free : is_loop old.loops c ≡ false → ¬ Free (JunctionOf g) c
-      not_free e = (told g sg old og c h).no e
+      not_free e = (meant g sg old og c h).no e
 
       go : (b : Bool) → is_loop old.loops c ≡ b →
           ArePiecesOfArc position_cmp (JunctionOf g) (JunctionOf u) new.arcs c (map (located new.arcs) (pieces_at (among js) b c))
@@ -52,7 +54,7 @@ module _ (js : List Pos) (a u : Geometry Pos) (sound : IsSound a) (alike : Alike
           subst (λ w. ArePiecesOfArc position_cmp (JunctionOf g) (JunctionOf u) new.arcs c (map (located new.arcs) w)) (sym (loop_as_ring g sg old og js c h e)) (inr (
             unclosed c,
             (free_loop g sg old og c h e).0,
-            (told g sg old og c h).yes e,
+            (meant g sg old og c h).yes e,
             (k.0, k.1, turned_alike position_cmp position_total position_same position_dec a u alike (unclosed c) k.0 k.1 k.2, k.3),
           ))
       go false e = inl (not_free e, line_list a sound js index ps of_lines of_rings new.arcs sorted c (opens c (has_open old.loops old.arcs c h e)))
@@ -125,8 +127,8 @@ module _ (maps : List (Geometry Pos)) (tables : List Arcs) (are : AreTablesOf ma
       table_alike (all_as_map tables) u alike new
       (of_map (all_as_map tables) sound (are_pieces (all_as_map tables) sound js index ps lines_there rings_there (λ p h. only js tables each p (subst (Has p) pieces h))))
 
-  same_place : (i : ℕ) (m : Geometry Pos) (t : Arcs) → slice_get maps i ≡ Some m → slice_get tables i ≡ Some t → IsTableOf m t
-  same_place i m t e f = go maps tables are.each i e f
+  same_index : (i : ℕ) (m : Geometry Pos) (t : Arcs) → slice_get maps i ≡ Some m → slice_get tables i ≡ Some t → IsTableOf m t
+  same_index i m t e f = go maps tables are.each i e f
     where
       go : (ms : List (Geometry Pos)) (ts : List Arcs) → Pairwise IsTableOf ms ts → (i : ℕ) → slice_get ms i ≡ Some m → slice_get ts i ≡ Some t → IsTableOf m t
       go [] ts p i e f = absurd cc
@@ -141,6 +143,19 @@ module _ (maps : List (Geometry Pos)) (tables : List Arcs) (are : AreTablesOf ma
         let h = get_has tables i t k in
         subst (λ (w : Arcs). IsRefinementOf position_cmp m u t.arcs w.arcs (of_table i r)) (sym e)
         (subst (IsRefinementOf position_cmp m u t.arcs new.arcs) (sym (lists i t k))
-        (refines js (all_as_map tables) u sound alike index ps lines_there rings_there new sorted table m (are.sound m (get_has maps i m f)) t (same_place i m t f k)
+        (refines js (all_as_map tables) u sound alike index ps lines_there rings_there new sorted table m (are.sound m (get_has maps i m f)) t (same_index i m t f k)
         (λ l o. Has-gathered lines_of_table tables t l h o) (λ r o. Has-gathered rings_of_table tables t r h o)));
   }
+
+-- the pieces of all arcs of the tables, of which those that are not marked stay whole
+module _ (maps : List (Geometry Pos)) (tables : List Arcs) (are : AreTablesOf maps tables) (u : Geometry Pos) (union : IsUnionOfAll maps u)
+    (js : List Pos) (index : IsIndexOf js (all_as_map tables)) (arcs : List Piece) (arcs_are : arcs ≡ arcs_of_all tables) (marks : List Bool)
+    (stay : UnmarkedStayWhole js arcs marks) (begins : List ℕ) (begins_is : begins ≡ bounds_of (map whole_pieces tables)) (r : RecutAllParts) where
+  abbrev all_cut : List (List Piece)
+  all_cut = pieces_from js marks 0 arcs
+
+  pub all_recut : AreSortedOnce list_cmp (map chain_of (joined all_cut)) r.arcs.arcs → ((g : Geometry Pos) → IsSound g → ArePiecesOfMap g (joined all_cut) → IsTableOf g r.arcs) →
+      r.lists ≡ parts_between begins (map (map (located r.arcs.arcs)) all_cut) → IsRecutOfAll maps u tables r
+  all_recut sorted of_map lists =
+      recut_of_all maps tables are u union js index (joined all_cut) (all_pieces_are js tables arcs arcs_are marks stay) r.arcs sorted of_map r refl
+      (table_lists js tables arcs arcs_are marks r begins begins_is lists stay)

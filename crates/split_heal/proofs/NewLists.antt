@@ -1,11 +1,11 @@
 -- The new lists along the old ones, by the table of starts.
-use Rattle.std.proofs.Common.{◌≡◌, ℕ, suc, ◌+◌, Bool, true, false, cond, List, [], ◌∷◌, ◌++◌, ◌<◌, drop, take, length, get_or, refl, sym, ap, ◌∙◌, subst, arith, append_assoc, Some, None}
+use Rattle.std.proofs.Common.{◌≡◌, ℕ, suc, ◌+◌, Bool, true, false, cond, List, [], ◌∷◌, ◌++◌, ◌<◌, drop, take, length, get_or, refl, sym, ap, ◌∙◌, subst, arith}
 use Rattle.std.proofs.Math.Seq.{drop-cons}
 use Rattle.std.proofs.lemmas.List.{append-nil}
 use Rattle.theory.specs.ArcNumbers.{ArcRef, StitchTo}
 use Rattle.theory.specs.Geometry.{Geometry, IsSound, IsLineOf, IsRingOf, JunctionOf}
 use Rattle.theory.specs.Refinement.{IsPartOf, IsRefinementOf}
-use Rattle.theory.specs.Healing.{AreStarts, Starts, before_start, from_start, is_start, healed_list, healed_ring_list, skipped, written}
+use Rattle.theory.specs.Healing.{AreStarts, Starts, before_start, from_start, is_start, healed_list, healed_ring_list}
 use Rattle.theory.specs.HealingLaws.{IsLeft}
 use Rattle.theory.specs.Topology.{IsRingList}
 use Rattle.theory.proofs.HealingLists.{starts_once}
@@ -16,21 +16,6 @@ use Rattle.lines.specs.Positions.{position_total, position_same}
 use Rattle.lines.proofs.Positions.{position_dec}
 use Rattle.split_heal.specs.Starts.{first_place, starts_by}
 use Rattle.split_heal.proofs.Begun.{starts_are}
-
--- one used old arc is read
-module _ (s : Starts) (a : ArcRef) (rest : List ArcRef) (before : List ArcRef) where
-  pub skip_one : (skip n : ℕ) → n + 1 ≡ skip → before ++ healed_list s n rest ≡ before ++ healed_list s skip (a ∷ rest)
-  skip_one skip n e = let f : suc n ≡ skip = omega (arith, e) in ap (λ k. before ++ healed_list s k (a ∷ rest)) f
-
-  pub none_begins : (skip : ℕ) → skip ≡ 0 → s a ≡ None → before ++ healed_list s 0 rest ≡ before ++ healed_list s skip (a ∷ rest)
-  none_begins skip e f =
-      sym (ap (λ w. before ++ (written w ++ healed_list s (skipped w) rest)) f) ∙ ap (λ k. before ++ healed_list s k (a ∷ rest)) (sym e)
-
-  pub one_begins : (skip : ℕ) (b : ArcRef) (n : ℕ) (now : List ArcRef) → skip ≡ 0 → s a ≡ Some (b, n) → now ≡ before ++ (b ∷ []) →
-      now ++ healed_list s n rest ≡ before ++ healed_list s skip (a ∷ rest)
-  one_begins skip b n now e f g =
-      ap (λ w. w ++ healed_list s n rest) g ∙ append_assoc before (b ∷ []) (healed_list s n rest)
-      ∙ sym (ap (λ w. before ++ (written w ++ healed_list s (skipped w) rest)) f) ∙ ap (λ k. before ++ healed_list s k (a ∷ rest)) (sym e)
 
 from_is : (s : Starts) (l : List ArcRef) → from_start s l ≡ drop (first_place s l) l
 from_is s [] = refl
@@ -62,11 +47,6 @@ module _ (s : Starts) where
       let k : suc i ≡ i + 1 = omega arith in
       let there : drop i used ≡ a ∷ drop (i + 1) used = drop-cons used i a h ∙ (λ j. sym e j ∷ drop (k j) used) in
       f (drop (i + 1) used ++ rest) ∙ ap (λ l. now ++ healed_list s left (l ++ rest)) (sym there) ∙ g rest
-
-  pub all_read : (used others : List ArcRef) (start now : List ArcRef) (skip left : ℕ) → others ≡ [] →
-      ((rest : List ArcRef) → now ++ healed_list s left (others ++ rest) ≡ start ++ healed_list s skip (used ++ rest)) →
-      (rest : List ArcRef) → now ++ healed_list s left rest ≡ start ++ healed_list s skip (used ++ rest)
-  all_read used others start now skip left e g rest = ap (λ l. now ++ healed_list s left (l ++ rest)) (sym e) ∙ g rest
 
   none_read : (n : ℕ) → healed_list s n [] ≡ []
   none_read n = refl
@@ -104,7 +84,7 @@ module _ (arcs : List (List Pos)) (pieces : List (List ArcRef)) (used list : Lis
       IsRefinementOf position_cmp g u arcs old pieces → IsLineOf g l → StitchTo old used l → StitchTo arcs list l
   healed_line_list e g u old l su part ref h k = line_at g u old su part ref e l h k
 
-  pub ring_told : list ≡ healed_ring_list position_cmp arcs (starts_by pieces) used → (g u : Geometry Pos) (old : List (List Pos)) (r : List Pos) → IsSound u → IsPartOf g u →
+  pub ring_says : list ≡ healed_ring_list position_cmp arcs (starts_by pieces) used → (g u : Geometry Pos) (old : List (List Pos)) (r : List Pos) → IsSound u → IsPartOf g u →
       IsRefinementOf position_cmp g u arcs old pieces → IsRingOf g r → IsRingList position_cmp (JunctionOf u) old r used →
       IsRingList position_cmp (JunctionOf g) arcs r list
-  ring_told e g u old r su part ref h k = ring_at g u old su part ref e r h k
+  ring_says e g u old r su part ref h k = ring_at g u old su part ref e r h k

@@ -1,5 +1,5 @@
 -- The steps by which the starts of new arcs are noted.
-use Rattle.std.proofs.Common.{◌≡◌, ℕ, ◌+◌, true, false, List, [], ◌∷◌, ◌++◌, sym, ap, ◌∙◌}
+use Rattle.std.proofs.Common.{◌≡◌, ℕ, ◌+◌, true, false, List, ◌∷◌, sym, ap, ◌∙◌}
 use Rattle.theory.specs.ArcNumbers.{ArcRef, backwards}
 use Rattle.theory.specs.Healing.{Starts}
 use Rattle.split_heal.specs.Starts.{with_arcs, with_head}

@@ -6,7 +6,7 @@ use Rattle.lines.specs.Turned.{position_cmp}
 use Rattle.theory.specs.ArcNumbers.{ArcRef, StitchFrom, StitchTo, Uses, UsesOnce, along, backwards, flipped}
 use Rattle.theory.specs.Geometry.{Geometry, JunctionOf}
 use Rattle.theory.specs.Lists.{Has, front_of, last_of}
-use Rattle.theory.specs.Healing.{Behind, IsKept, IsRun as IsRunOf}
+use Rattle.theory.specs.Healing.{Behind, IsKept}
 use Rattle.theory.specs.Validity.{BeginsAt}
 use Rattle.theory.proofs.ArcNumbers.{along_flipped, taken_back, taken_of, taken_stitch}
 use Rattle.theory.proofs.GroupedPieces.{uses_back, uses_parts}
@@ -20,7 +20,7 @@ use Rattle.split_heal.specs.Healing.{IsLeftBy}
 use Rattle.split_heal.specs.Walks.{ArePaired, Linked, is_left}
 use Rattle.split_heal.specs.declared.pseudo_nodes.PseudoNodes.{PseudoNodes}
 use Rattle.split_heal.proofs.Partners as partners
-use Rattle.split_heal.proofs.Partners.{AreTold}
+use Rattle.split_heal.proofs.Partners.{AreAnswered}
 use Rattle.split_heal.proofs.WalkedRuns.{flip_flip}
 
 -- a list without its last
@@ -129,7 +129,7 @@ uses_has x (y ∷ l) (inr h) = inr (uses_has x l h)
 pub one_begin : (arcs : List (List Pos)) (a : ArcRef) (v w : Pos) → BeginsAt arcs v a → BeginsAt arcs w a → v ≡ w
 one_begin arcs a v w s t = let e : Some (v ∷ s.0) ≡ Some (w ∷ t.0) = sym s.1 ∙ t.1 in cc
 
-module _ (g u : Geometry Pos) (old : Arcs) (marks : List Bool) (ending : List Pos) (left : IsLeftBy g u old marks ending) (m : PseudoNodes) (met : AreTold old marks ending m) where
+module _ (g u : Geometry Pos) (old : Arcs) (marks : List Bool) (ending : List Pos) (left : IsLeftBy g u old marks ending) (m : PseudoNodes) (met : AreAnswered old marks ending m) where
   abbrev pub Kept : ℕ → Type 0
   Kept = IsKept position_cmp g u old.arcs
 
@@ -173,6 +173,3 @@ module _ (g u : Geometry Pos) (old : Arcs) (marks : List Bool) (ending : List Po
       let (x, i, e) = follows P l f b h in
       let (w, t) = meets (flipped x) b (k x.arc (uses_has x l i)) e in
       t.no_stop (subst (JunctionOf g) (one_begin old.arcs b v w begins t.there) j)
-
-  run_of : (l : List ArcRef) (c : List Pos) → ¬ (l ≡ []) → StitchTo old.arcs l c → UsesOnce l → ((k : ℕ) → Uses k l → Kept k) → IsRunOf Kept old.arcs l c
-  run_of l c n s o k = record { some = n; stitch = s; once = o; stays = k }

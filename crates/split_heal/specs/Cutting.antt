@@ -2,14 +2,12 @@
 use Rattle.std.specs.Prelude.{ℕ, ◌+◌, Bool, true, cond, List, [], ◌∷◌, map, get_or}
 use Rattle.theory.specs.ArcNumbers.{ArcRef}
 use Rattle.theory.specs.Geometry.{Geometry}
-use Rattle.theory.specs.Lists.{joined}
 use Rattle.theory.specs.Refinement.{IsRefinementOf}
 use Rattle.grid.specs.declared.pos.Pos.{Pos}
 use Rattle.lines.specs.Turned.{position_cmp}
 use Rattle.arcs.specs.Arcs.{Arcs}
 use Rattle.chains.specs.OfArcs.{arc_pieces}
 use Rattle.chains.specs.ArcPieces.{pieces_under}
-use Rattle.arcs.specs.Placing.{whole_pieces}
 use Rattle.arcs.specs.Table.{located, IsTableOf}
 use Rattle.arcs.specs.declared.piece.Piece.{Piece}
 use Rattle.split_heal.specs.SplitParts.{RecutParts}
@@ -22,10 +20,6 @@ arc_used junctions loops new c = map (located new) (arc_pieces junctions loops c
 abbrev pub pieces_from : List Pos → List Bool → ℕ → List Piece → List (List Piece)
 pieces_from junctions marks n [] = []
 pieces_from junctions marks n (p ∷ ps) = cond (get_or marks n true) (pieces_under junctions p) (p ∷ []) ∷ pieces_from junctions marks (n + 1) ps
-
--- the pieces of all arcs of a table, of which those that are not marked stay so
-abbrev pub table_pieces : List Pos → List Bool → Arcs → List Piece
-table_pieces junctions marks t = joined (pieces_from junctions marks 0 (whole_pieces t))
 
 -- the table is that of u, which m and n make together, and the arcs of both are cut into its arcs
 pub record IsRecutOf (m n u : Geometry Pos) (left right : Arcs) (r : RecutParts) : Type 0 where

@@ -13,6 +13,7 @@ ghost use Rattle.theory.specs.Topology.{IsRingList};
 
 use crate::arc_run::ArcRun;
 use crate::start_table::ArcStartTable;
+use arcs::{HavePieces, NewLists};
 use chains::table::{ArcRef, ArcTable};
 use chains::turning::turn_ring;
 use faults::OutOfMemory;
@@ -29,13 +30,13 @@ pub struct HealedArcs {
 
 impl Model for HealedArcs {
     ghost use Rattle.split_heal.specs.HealedParts.{HealedParts};
-    ghost use Rattle.split_heal.specs.Starts.{AreNotedIn};
+    ghost use Rattle.split_heal.specs.Starts.{AreRecordedIn};
 
     ghost Value = { HealedParts };
 
     ghost view = { λ a. record { arcs = a.arcs; pieces = a.pieces.items } };
 
-    ghost invariant = { λ a. AreNotedIn a.starts a.pieces.items };
+    ghost invariant = { λ a. AreRecordedIn a.starts a.pieces.items };
 }
 
 impl HealedArcs {
@@ -167,5 +168,27 @@ impl HealedArcs {
         let mut refs = self.read_round(alloc, used)?;
         turn_ring(&self.arcs, &mut refs);
         Ok(refs)
+    }
+}
+
+impl HavePieces for HealedArcs {
+    ghost pieces_of = { λ r. r.pieces };
+
+    fn pieces(&self, number: usize) -> Option<&[ArcRef]> {
+        self.pieces(number)
+    }
+}
+
+impl NewLists for HealedArcs {
+    ghost line_of = { λ r. healed_list (starts_by r.pieces) 0 };
+
+    ghost ring_of = { λ r. healed_ring_list position_cmp r.arcs.arcs (starts_by r.pieces) };
+
+    fn line(&self, alloc: Global, used: &[ArcRef]) -> Result<Vec<ArcRef>, OutOfMemory> {
+        self.line(alloc, used)
+    }
+
+    fn ring(&self, alloc: Global, used: &[ArcRef]) -> Result<Vec<ArcRef>, OutOfMemory> {
+        self.ring(alloc, used)
     }
 }

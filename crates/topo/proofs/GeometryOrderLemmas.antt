@@ -3,7 +3,7 @@ pub mod RingSteps
 pub mod ArcSteps
 pub mod RoundRings
 pub mod LeastSteps
-pub mod RingsStand
-pub mod BodiesStand
+pub mod RingsCompare
+pub mod BodiesCompare
 pub mod NodedTables
-pub mod KeysStand
+pub mod KeysCompare

@@ -41,19 +41,8 @@ module _ (ps : List Pos) (n : ℕ) (h : n ≤ length ps) where
       let m : length (drop (length ps - n) ps) ≡ length ps - (length ps - n) = length-drop (length ps - n) ps in
       let k : length first ≡ length (drop (length ps - n) ps) = length-reverse (drop (length ps - n) ps) in omega (arith, h, m, k)
 
-  pub turned_until : first ≡ take n (reverse ps)
-  turned_until = sym (ap (take n) parted ∙ ap (λ k. take k (first ++ second)) first_long ∙ take-append_seam first second)
-
   pub turned_behind : second ≡ drop n (reverse ps)
   turned_behind = sym (ap (drop n) parted ∙ ap (λ k. drop k (first ++ second)) first_long ∙ drop-append_seam first second)
-
--- of a part that is used backwards, by its flag
-pub part_until : (b : Bool) (ps : List Pos) (n : ℕ) → b ≡ true → n ≤ length (cond b (reverse ps) ps) →
-    reverse (take (length ps - (length ps - n)) (drop (length ps - n) ps)) ≡ take n (cond b (reverse ps) ps)
-part_until false ps n e h = absurd cc
-part_until true ps n e h =
-    let k : n ≤ length ps = omega (arith, h, length-reverse ps) in
-    ap reverse (take_all (length ps - (length ps - n)) (drop (length ps - n) ps) (omega (arith, length-drop (length ps - n) ps))) ∙ turned_until ps n k
 
 pub part_behind : (b : Bool) (ps : List Pos) (n : ℕ) → b ≡ true → n ≤ length (cond b (reverse ps) ps) →
     reverse (take (length ps - n) ps) ≡ drop n (cond b (reverse ps) ps)

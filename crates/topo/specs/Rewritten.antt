@@ -1,14 +1,10 @@
 -- Geometries and layers of a topology whose lists of used arcs become other lists.
-use Rattle.std.specs.Prelude.{List, map as map_list}
-use Rattle.theory.specs.ArcNumbers.{ArcRef}
+use Rattle.std.specs.Prelude.{map as map_list}
+use Rattle.arcs.specs.ListRules.{ListRule}
 use Rattle.topo.specs.Parts.{LayerParts}
 use Rattle.topo.specs.Bodies.{Body}
 use Rattle.shapes.specs.Forms.{form_map}
 use Rattle.topo.specs.declared.geom.Geom.{Geom}
-
--- what a list of used arcs becomes
-abbrev pub ListRule : Type 0
-ListRule = List ArcRef → List ArcRef
 
 -- a body whose lines' lists become other ones by the first rule, and its rings' lists by the second
 abbrev pub body_rewritten : ListRule → ListRule → Body → Body

@@ -1,7 +1,7 @@
 //! What is left of an arc, to be read in the direction in which it is used.
 ghost use Rattle.lines.specs.Pairs.{position_eq};
 ghost use Rattle.std.specs.Iterator.{YieldsFirstRef, YieldsLastRef};
-ghost use Rattle.std.specs.Prelude.{◌≡◌, ◌≤◌, ◌↔◌, [], true, drop, length, reverse, take};
+ghost use Rattle.std.specs.Prelude.{◌≡◌, ◌≤◌, ◌↔◌, [], true, drop, length, reverse};
 ghost use Rattle.topo.specs.Walked.{run_of};
 
 use chains::table::{ArcRef, ArcTable};
@@ -116,23 +116,6 @@ impl<'a> ArcSlice<'a> {
         ensures { result ≡ length self.now }
     {
         self.positions.len()
-    }
-
-    /// So many positions of the front.
-    pub fn until(&self, count: usize) -> ArcSlice<'a>
-        requires { count ≤ length self.now }
-        ensures { result ≡ take count self.now }
-    {
-        if self.reversed {
-            return ArcSlice {
-                positions: &self.positions[self.positions.len() - count..],
-                reversed: true,
-            };
-        }
-        ArcSlice {
-            positions: &self.positions[..count],
-            reversed: false,
-        }
     }
 
     /// The positions behind so many.

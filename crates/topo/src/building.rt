@@ -112,45 +112,47 @@ impl<'a> UsedLists<'a> {
         }
     }
 
-    fn geometry(&mut self, alloc: Global, feature: &Feature) -> Result<Geom, OutOfMemory>
-        ensures geometry { IfOk result (λ g. g ≡ geometry_taken feature.now self.old) }
-        ensures left { OnOk result (self.new ≡ shape_left feature.now.shape self.old) }
+    fn geometry(&mut self, alloc: Global, feature: Feature) -> Result<Geom, OutOfMemory>
+        ensures geometry { IfOk result (λ g. g ≡ geometry_taken feature self.old) }
+        ensures left { OnOk result (self.new ≡ shape_left feature.shape self.old) }
     {
-        let id = feature.id.copy(alloc)?;
-        let props = feature.props.copy(alloc)?;
         let body = self.body(alloc, &feature.shape)?;
-        Ok(Geom { id, props, body })
+        Ok(Geom {
+            id: feature.id,
+            props: feature.props,
+            body,
+        })
     }
 
     fn geometries(
         &mut self,
         alloc: Global,
-        features: &BTreeSet<Feature>,
+        features: BTreeSet<Feature>,
     ) -> Result<Vec<Geom>, OutOfMemory>
-        ensures geometries { IfOk result (λ v. v.items ≡ geometries_taken (set.items (set_of features.now)) self.old) }
-        ensures left { OnOk result (self.new ≡ features_left (set.items (set_of features.now)) self.old) }
+        ensures geometries { IfOk result (λ v. v.items ≡ geometries_taken (set.items (set_of features)) self.old) }
+        ensures left { OnOk result (self.new ≡ features_left (set.items (set_of features)) self.old) }
     {
         let mut geometries = Vec::with_capacity(alloc, features.len())?;
-        for feature in features.iter() {
+        for feature in features {
             geometries.push(self.geometry(alloc, feature)?)?;
         }
         Ok(geometries)
     }
 
-    fn layer(&mut self, alloc: Global, layer: &FeatureLayer) -> Result<Layer, OutOfMemory>
-        ensures layer { IfOk result (λ l. l ≡ layer_taken layer.now self.old) }
-        ensures left { OnOk result (self.new ≡ features_left (set.items (set_of layer.now.features)) self.old) }
+    fn layer(&mut self, alloc: Global, layer: FeatureLayer) -> Result<Layer, OutOfMemory>
+        ensures layer { IfOk result (λ l. l ≡ layer_taken layer self.old) }
+        ensures left { OnOk result (self.new ≡ features_left (set.items (set_of layer.features)) self.old) }
     {
-        let name = layer.name.copy(alloc)?;
-        let geometries = self.geometries(alloc, &layer.features)?;
+        let FeatureLayer { name, features } = layer;
+        let geometries = self.geometries(alloc, features)?;
         Ok(Layer::new(name, geometries))
     }
 
-    fn layers(&mut self, alloc: Global, map: &FeatureMap) -> Result<Vec<Layer>, OutOfMemory>
-        ensures { IfOk result (λ v. map_list parts_entry v.items ≡ entries_taken (entries map.now) self.old) }
+    fn layers(&mut self, alloc: Global, map: FeatureMap) -> Result<Vec<Layer>, OutOfMemory>
+        ensures { IfOk result (λ v. map_list parts_entry v.items ≡ entries_taken (entries map) self.old) }
     {
         let mut layers = Vec::new(alloc);
-        for layer in map.layers() {
+        for (_, layer) in map.into_layers() {
             layers.push(self.layer(alloc, layer)?)?;
         }
         Ok(layers)
@@ -164,10 +166,10 @@ struct BuiltParts {
     layers: Vec<Layer>,
 }
 
-fn parts_of(alloc: Global, map: &FeatureMap) -> Result<BuiltParts, OutOfMemory>
-    ensures { IfOk result (λ p. ArePartsOf map.now p.table p.layers.items) }
+fn parts_of(alloc: Global, map: FeatureMap) -> Result<BuiltParts, OutOfMemory>
+    ensures { IfOk result (λ p. ArePartsOf map p.table p.layers.items) }
 {
-    let Cuts { pieces, counts } = Cuts::of(alloc, map)?;
+    let Cuts { pieces, counts } = Cuts::of(alloc, &map)?;
     let (table, refs) = ArcTable::with_refs(alloc, pieces)?;
     let mut lists = UsedLists {
         refs: &refs,
@@ -180,7 +182,8 @@ fn parts_of(alloc: Global, map: &FeatureMap) -> Result<BuiltParts, OutOfMemory>
 impl Topology {
     /// The topology of a map on a grid: its arcs are all chains of the map in least direction,
     /// sorted; each line and ring is the list of arcs that stitches to it, a ring read from its least
-    /// junction, or from its least vertex where it has none.
+    /// junction, or from its least vertex where it has none. The map is copied; `build_owned` moves its ids
+    /// and properties.
     ///
     /// # Errors
     /// Where memory is refused.
@@ -189,6 +192,20 @@ impl Topology {
         ensures computed { IfOk result (λ t. seen_parts t ≡ the_topology grid.now map.now) }
         ensures segments { IfOk result (λ t. EachSegmentOnce (geometry_of map.now) t.arcs.arcs) }
         ensures of_map { IfOk result (λ t. IsOf map.now t) }
+        ensures few { IfOk result (λ t. length t.arcs.arcs < 2 ^ 63) }
+    {
+        Topology::build_owned(alloc, grid, map.copy()?)
+    }
+
+    /// `build` of a map that is consumed.
+    ///
+    /// # Errors
+    /// Where memory is refused.
+    pub fn build_owned(alloc: Global, grid: &Grid, map: FeatureMap) -> Result<Topology, OutOfMemory>
+        ensures topology { IfOk result (λ t. IsTopology grid.now map (seen_parts t)) }
+        ensures computed { IfOk result (λ t. seen_parts t ≡ the_topology grid.now map) }
+        ensures segments { IfOk result (λ t. EachSegmentOnce (geometry_of map) t.arcs.arcs) }
+        ensures of_map { IfOk result (λ t. IsOf map t) }
         ensures few { IfOk result (λ t. length t.arcs.arcs < 2 ^ 63) }
     {
         let parts = parts_of(alloc, map)?;

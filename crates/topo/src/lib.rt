@@ -10,7 +10,6 @@ mod expanding;
 pub mod geom;
 pub mod geometry_order;
 pub mod layer_laws;
-mod new_lists;
 pub mod order;
 mod rewritten;
 pub mod stitching;
@@ -20,7 +19,6 @@ pub mod walk;
 
 pub use arc_slice::ArcSlice;
 pub use geom::{Body, Geom};
-pub use new_lists::NewLists;
 pub use order::kind_order;
 pub use rewritten::{
     copy_rewritten, geometries_rewritten, geometry_rewritten, layer_rewritten, layers_rewritten,

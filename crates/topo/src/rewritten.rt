@@ -1,60 +1,46 @@
 //! Geometries and layers by their new lists. Ids, properties, points, names and the order stay.
-ghost use Rattle.std.specs.Prelude.{◌≡◌, IfOk, List, map as map_list};
+ghost use Rattle.std.specs.Prelude.{◌≡◌, IfOk, List, cond, map as map_list};
 ghost use Rattle.theory.specs.ArcNumbers as numbers;
 ghost use Rattle.topo.specs.Rewritten as rewritten;
 
-use crate::new_lists::NewLists;
 use crate::{Body, Geom, Layer};
+use arcs::NewLists;
 use chains::table::ArcRef;
 use faults::OutOfMemory;
 use lines::items::Items;
 use shapes::form_map::Become;
 use std::alloc::Global;
 
-/// Lists of lines by their rule.
+/// The lists of lines, or those of rings, by their rule.
 #[derive(Drop)]
-struct NewLine<'a, L> {
+struct NewList<'a, L> {
     lists: &'a L,
+    ring: bool,
 }
 
-impl<'a, L: NewLists> Become<Items<ArcRef>> for NewLine<'a, L> {
+impl<'a, L: NewLists> Become<Items<ArcRef>> for NewList<'a, L> {
     type Made = Items<ArcRef>;
 
     ghost Seen = { List numbers.ArcRef };
 
     ghost seen = { λ used. used };
 
-    ghost becomes = { λ n used. L.line_of n.lists.now used };
+    ghost becomes = { λ n used. cond n.ring (L.ring_of n.lists.now used) (L.line_of n.lists.now used) };
 
     fn make(&self, alloc: Global, old: &Items<ArcRef>) -> Result<Items<ArcRef>, OutOfMemory> {
+        if self.ring {
+            return Ok(Items::from_vec(self.lists.ring(alloc, old.as_slice())?));
+        }
         Ok(Items::from_vec(self.lists.line(alloc, old.as_slice())?))
-    }
-}
-
-/// Lists of rings by their rule.
-#[derive(Drop)]
-struct NewRing<'a, L> {
-    lists: &'a L,
-}
-
-impl<'a, L: NewLists> Become<Items<ArcRef>> for NewRing<'a, L> {
-    type Made = Items<ArcRef>;
-
-    ghost Seen = { List numbers.ArcRef };
-
-    ghost seen = { λ used. used };
-
-    ghost becomes = { λ n used. L.ring_of n.lists.now used };
-
-    fn make(&self, alloc: Global, old: &Items<ArcRef>) -> Result<Items<ArcRef>, OutOfMemory> {
-        Ok(Items::from_vec(self.lists.ring(alloc, old.as_slice())?))
     }
 }
 
 fn body_copied<L: NewLists>(alloc: Global, lists: &L, body: &Body) -> Result<Body, OutOfMemory>
     ensures { IfOk result (λ b. b ≡ rewritten.body_rewritten (L.line_of lists.now) (L.ring_of lists.now) body.now) }
 {
-    let made = body.try_map(alloc, &NewLine { lists }, &NewRing { lists })?;
+    let line = NewList { lists, ring: false };
+    let ring = NewList { lists, ring: true };
+    let made = body.try_map(alloc, &line, &ring)?;
     Ok(made)
 }
 
@@ -64,9 +50,7 @@ fn body_rewritten<L: NewLists>(alloc: Global, lists: &L, body: Body) -> Result<B
 {
     match body {
         Body::Null | Body::Point(_) | Body::MultiPoint(_) => Ok(body),
-        Body::Line(_) | Body::MultiLine(_) | Body::Polygon(_) | Body::MultiPolygon(_) => {
-            body_copied(alloc, lists, &body)
-        }
+        _ => body_copied(alloc, lists, &body),
     }
 }
 

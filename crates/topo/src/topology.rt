@@ -172,6 +172,13 @@ impl Topology {
         self.grid
     }
 
+    /// Whether both topologies have one grid.
+    pub fn is_on_grid_of(&self, other: &Topology) -> bool
+        ensures { IsTrue result ↔ (self.now.grid ≡ other.now.grid) }
+    {
+        self.grid == other.grid
+    }
+
     /// The arcs, sorted.
     pub fn arcs(&self) -> &ArcTable
         ensures arcs { result.now ≡ self.now.arcs }

@@ -8,11 +8,13 @@ ghost use Rattle.topo_io.specs.Parts.{layer_of_geoms};
 ghost use Rattle.topo_io.specs.Stitching.{LayerStitches};
 
 use faults::OutOfMemory;
+use grid::pos::Pos;
 use grid::transform::Grid;
+use lines::items::Items;
 use normalize::{normalize, without_repeats};
 use std::alloc::Global;
 use topo::{Layer, Topology};
-use validate::accept::{Accepted, TextArcs, layers_sorted, take};
+use validate::accept::{Accepted, layers_sorted, take};
 
 /// The topology of a text's arcs and layers, normalized: arcs that are cut, doubled or used by nobody, in any
 /// order and direction, come to those of the topology, and features are put into order. No feature is
@@ -20,7 +22,7 @@ use validate::accept::{Accepted, TextArcs, layers_sorted, take};
 fn topology_of_normalized(
     alloc: Global,
     grid: Grid,
-    arcs: &TextArcs,
+    arcs: &[Items<Pos>],
     layers: &[Layer],
 ) -> Result<Option<Topology>, OutOfMemory>
     requires { HaveI64 layers.now }
@@ -48,7 +50,7 @@ fn topology_of_normalized(
 pub(crate) fn topology_of_stitched(
     alloc: Global,
     grid: Grid,
-    arcs: &TextArcs,
+    arcs: &[Items<Pos>],
     layers: &[Layer],
 ) -> Result<Option<Topology>, OutOfMemory>
     requires ids { HaveI64 layers.now }

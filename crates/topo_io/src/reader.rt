@@ -44,7 +44,6 @@ use shapes::feature::Feature;
 use shapes::feature_map::FeatureMap;
 use shapes::layer::feature_set;
 use std::alloc::Global;
-use validate::accept::TextArcs;
 
 /// Layers by name, each with the features that its geometries mean.
 type Layers = Vec<(String, Vec<Feature>)>;
@@ -88,8 +87,7 @@ fn read_layers(alloc: Global, limits: &Limits, value: &Value) -> Result<Layers, 
     ensures err { IfErr result (λ f. LeastOrWant (content_faults limits.now (view value.now)) f) }
 {
     let of = ArcOf { limits: *limits };
-    let listed = read_list_member(alloc, of, value, "arcs")?;
-    let arcs = TextArcs::from_list(listed);
+    let arcs = read_list_member(alloc, of, value, "arcs")?;
     let on = Ground {
         arcs: &arcs,
         limits: *limits,

@@ -18,13 +18,15 @@ use crate::validity::parts::layers_stitch;
 use crate::validity::{judge_root, judge_text};
 use faults::OutOfMemory;
 use faults::fault::{Fault, FaultKind};
+use grid::pos::Pos;
 use grid::transform::Grid;
+use lines::items::Items;
 use reading::document::document;
 use reading::tokens::from_tokens::Stop;
 use serde_json::Value;
 use std::alloc::Global;
 use topo::{Layer, Topology};
-use validate::accept::{Accepted, TextArcs, take};
+use validate::accept::{Accepted, take};
 
 // A list that doesn't stitch is a fault, but not where it stands: the text is read once more, and its
 // least fault is told.
@@ -43,7 +45,7 @@ fn least_fault(alloc: Global, bytes: &[u8]) -> Fault
 fn build_topology(
     alloc: Global,
     grid: &Grid,
-    arcs: &TextArcs,
+    arcs: &[Items<Pos>],
     layers: Vec<Layer>,
 ) -> Result<Option<Topology>, OutOfMemory>
     ensures means { IfOk result (λ o. IfSome o (IsTopologyOfParts grid.now arcs.now layers.items)) }
@@ -51,7 +53,7 @@ fn build_topology(
     ensures none { IfOk result (λ o. IfNone o (AreFaultyParts grid.now arcs.now layers.items)) }
 {
     match map_of_parts(alloc, arcs, layers)? {
-        Some(map) => Ok(Some(Topology::build(alloc, grid, &map)?)),
+        Some(map) => Ok(Some(Topology::build_owned(alloc, grid, map)?)),
         None => Ok(None),
     }
 }
@@ -62,7 +64,7 @@ fn build_topology(
 fn topology_of_judged(
     alloc: Global,
     grid: Grid,
-    arcs: &TextArcs,
+    arcs: &[Items<Pos>],
     layers: Vec<Layer>,
 ) -> Result<Option<Topology>, OutOfMemory>
     requires { HaveI64 layers.items }
@@ -141,7 +143,7 @@ fn built_of_value(alloc: Global, bytes: &[u8]) -> Result<Topology, Fault>
     ensures err { IfErr result (λ f. LeastOrWant (faults_of_text bytes.now) f) }
 {
     let (grid, map) = read(alloc, bytes)?;
-    match Topology::build(alloc, &grid, &map) {
+    match Topology::build_owned(alloc, &grid, map) {
         Ok(topology) => Ok(topology),
         Err(OutOfMemory) => Err(Fault::here(alloc, FaultKind::OutOfMemory)),
     }

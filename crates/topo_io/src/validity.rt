@@ -47,7 +47,6 @@ use reading::part::{judge_type, read_list_member};
 use reading::tokens::from_tokens::Stop;
 use serde_json::Value;
 use std::alloc::Global;
-use validate::accept::TextArcs;
 
 /// Validates the member `objects`, by what is known of the arcs.
 fn judge_objects(
@@ -71,8 +70,7 @@ fn judge_on_arcs(
     ensures { IfOk result (λ fs. AreFound wanted (content_faults limits.now (view value.now)) (pairs_of fs.items)) }
 {
     match read_list_member(alloc, ArcOf { limits: *limits }, value, "arcs") {
-        Ok(listed) => {
-            let arcs = TextArcs::from_list(listed);
+        Ok(arcs) => {
             let lists = ArcLists::new(alloc, &arcs)?;
             let on = Known {
                 arcs: Named::Known(&lists),
@@ -235,10 +233,7 @@ fn is_faultless(alloc: Global, bytes: &[u8]) -> Result<bool, OutOfMemory>
     ensures { IfOk result (λ b. IsTrue b → faults_of_text bytes.now ≡ []) }
 {
     match read_parts(alloc, bytes) {
-        Ok(parts) => {
-            let arcs = TextArcs::from_list(parts.arcs);
-            Ok(layers_stitch(alloc, &arcs, &parts.layers)?)
-        }
+        Ok(parts) => Ok(layers_stitch(alloc, &parts.arcs, &parts.layers)?),
         Err(Stop::Unread) => Ok(false),
         Err(Stop::OutOfMemory) => Err(OutOfMemory),
     }

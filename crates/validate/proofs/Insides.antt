@@ -6,9 +6,10 @@ use Rattle.theory.specs.Lists.{gathered}
 use Rattle.theory.specs.Refinement.{unclosed}
 use Rattle.theory.specs.Validity.{inner_of, insides}
 use Rattle.theory.specs.TopologyFunction.{keep}
+use Rattle.arcs.proofs.Marks.{gathered_map}
 use Rattle.arcs.specs.Arcs.{Arcs}
 use Rattle.chains.specs.OfArcs.{table_as_map}
-use Rattle.arcs.specs.Table.{is_loop}
+use Rattle.arcs.specs.Table.{is_loop, with_loops}
 use Rattle.validate.specs.Noding.{arc_inside}
 
 module _ {V : Type 0} (f : List V → Bool) where
@@ -38,5 +39,6 @@ module _ {V : Type 0} (f : List V → Bool) where
           subst (λ w. IsPermutation (inner_of c ++ gathered part arcs) w) (sym (append_assoc (inner_of c) (of_lines arcs) (of_rings arcs)))
           (IsPermutation-append_right (inner_of c) (gathered part arcs) (of_lines arcs ++ of_rings arcs) p)
 
-pub insides_of_table : (t : Arcs) → IsPermutation (gathered (arc_inside t.loops) t.arcs) (insides (table_as_map t))
-insides_of_table t = parts (is_loop t.loops) t.arcs
+pub insides_of_table : (t : Arcs) → IsPermutation (gathered arc_inside (with_loops t)) (insides (table_as_map t))
+insides_of_table t =
+    subst (λ w. IsPermutation w (insides (table_as_map t))) (sym (gathered_map arc_inside (λ c. (c, is_loop t.loops c)) t.arcs)) (parts (is_loop t.loops) t.arcs)

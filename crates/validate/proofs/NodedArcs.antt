@@ -34,17 +34,17 @@ use Rattle.theory.specs.Validity.{ArcsAreNoded, AreValidArcs, AreParted, insides
 use Rattle.arcs.specs.Among.{Tells, among}
 use Rattle.arcs.specs.Arcs.{Arcs}
 use Rattle.chains.specs.OfArcs.{table_as_map}
-use Rattle.arcs.specs.Table.{IsTableOf, is_loop, is_loop_if}
+use Rattle.arcs.specs.Table.{IsTableOf, is_loop, is_loop_if, with_loops}
 use Rattle.arcs.specs.Stored.{rises}
 use Rattle.chains.proofs.Among.{among_has, has_among}
-use Rattle.arcs.proofs.ArcsInOrder.{sorted_told}
+use Rattle.arcs.proofs.ArcsInOrder.{sorted_means}
 use Rattle.chains.proofs.TablesAsMap.{has_loop, has_open, loop_has, open_has}
 use Rattle.validate.specs.Noding.{AreInOrder, arc_inside, begins_least, each_forward, arcs_are_valid, is_forward, none_before, is_valid_arc}
 use Rattle.validate.specs.EndTests.{both_are, each_ends, ends_are}
 use Rattle.validate.specs.declared.end_tests.EndsHaveToBe.TheVariants.{Apart}
 use Rattle.validate.specs.SharedVertices.{KeepsElsewhere}
 use Rattle.validate.proofs.Insides.{insides_of_table}
-use Rattle.validate.proofs.Steps.{all_from, all_has}
+use Rattle.validate.proofs.Steps.{all_from, all_from_with, all_has, all_has_with}
 use Rattle.validate.proofs.Starting.{most_of, of_most}
 use Rattle.validate.proofs.Twins.{distinct_from, doubled_moved, not_doubled, twins_doubled, twins_sorted}
 
@@ -65,19 +65,19 @@ less_forward : (c : List Pos) → list_cmp c (reverse c) ≡ Less → is_forward
 less_forward c e = ap is_gt (less_back list_cmp (lists_total position_total) (slice_cmp-IsAntisymmetric position_same) c (reverse c) e)
 
 -- what is told of the order of all arcs
-pub order_told : (arcs : List (List Pos)) (b d : Bool) → b ≡ rises arcs → d ≡ each_forward arcs → b ≡ true → (d ≡ true) ↔ AreInOrder arcs
-order_told arcs b d rising forward e = (
+pub order_means : (arcs : List (List Pos)) (b d : Bool) → b ≡ rises arcs → d ≡ each_forward arcs → b ≡ true → (d ≡ true) ↔ AreInOrder arcs
+order_means arcs b d rising forward e = (
   (λ h. record {
-    sorted = (sorted_told arcs b rising).0 e;
+    sorted = (sorted_means arcs b rising).0 e;
     forward = λ c i. forward_less c (all_has is_forward arcs (sym forward ∙ h) c i);
   }),
   (λ o. forward ∙ all_from is_forward arcs (λ c i. less_forward c (o.forward c i))),
 )
 
-pub disorder_told : (arcs : List (List Pos)) (b : Bool) → b ≡ rises arcs → b ≡ false → (b ≡ true) ↔ AreInOrder arcs
-disorder_told arcs b rising e = (
+pub disorder_means : (arcs : List (List Pos)) (b : Bool) → b ≡ rises arcs → b ≡ false → (b ≡ true) ↔ AreInOrder arcs
+disorder_means arcs b rising e = (
   (λ h. let no : true ≡ false = sym h ∙ e in absurd cc),
-  (λ o. (sorted_told arcs b rising).1 o.sorted),
+  (λ o. (sorted_means arcs b rising).1 o.sorted),
 )
 
 -- it has two vertices or more, so, closed, it is the ring that it goes round, closed
@@ -127,16 +127,16 @@ cases true = inl refl
 cases false = inr refl
 
 -- what is looked at in one arc
-alone_forward : (free : Bool) (c : List Pos) → is_valid_arc free c ≡ true → is_forward c ≡ true
+alone_forward : (free : Bool) (c : List Pos) → is_valid_arc (c, free) ≡ true → is_forward c ≡ true
 alone_forward free c e = (cond_both (is_forward c) (cond free (is_closed position_cmp c && begins_least c) true) e).0
 
-alone_loop : (free : Bool) (c : List Pos) → free ≡ true → is_valid_arc free c ≡ true → (is_closed position_cmp c ≡ true) × (begins_least c ≡ true)
+alone_loop : (free : Bool) (c : List Pos) → free ≡ true → is_valid_arc (c, free) ≡ true → (is_closed position_cmp c ≡ true) × (begins_least c ≡ true)
 alone_loop free c f e =
     both_true (is_closed position_cmp c) (begins_least c)
     (sym (ap (λ w. cond w (is_closed position_cmp c && begins_least c) true) f)
     ∙ (cond_both (is_forward c) (cond free (is_closed position_cmp c && begins_least c) true) e).1)
 
-alone_intro : (free : Bool) (c : List Pos) → is_forward c ≡ true → (free ≡ true → (is_closed position_cmp c && begins_least c) ≡ true) → is_valid_arc free c ≡ true
+alone_intro : (free : Bool) (c : List Pos) → is_forward c ≡ true → (free ≡ true → (is_closed position_cmp c && begins_least c) ≡ true) → is_valid_arc (c, free) ≡ true
 alone_intro free c e f = ap (λ w. cond w (cond free (is_closed position_cmp c && begins_least c) true) false) e ∙ go free f
   where
     go : (b : Bool) → (b ≡ true → (is_closed position_cmp c && begins_least c) ≡ true) → cond b (is_closed position_cmp c && begins_least c) true ≡ true
@@ -163,9 +163,9 @@ module _ (t : Arcs) where
   free = is_loop t.loops
 
   -- each arc that was looked at
-  module _ (e : arcs_are_valid t.loops t.arcs ≡ true) where
-    alone : (c : List Pos) → Has c t.arcs → is_valid_arc (free c) c ≡ true
-    alone c h = all_has (λ c. is_valid_arc (free c) c) t.arcs e c h
+  module _ (e : arcs_are_valid t ≡ true) where
+    alone : (c : List Pos) → Has c t.arcs → is_valid_arc (c, free c) ≡ true
+    alone c h = all_has_with is_valid_arc t e c h
 
     loop_closed : (c : List Pos) → Has c t.arcs → free c ≡ true → c ≡ closed (unclosed c)
     loop_closed c h f = closes c (alone_forward (free c) c (alone c h)) (alone_loop (free c) c f (alone c h)).0
@@ -202,11 +202,11 @@ module _ (t : Arcs) where
           | inr k ↦ subst (AtMost position_cmp x) (sym k) (at_most_self position_cmp position_total position_same x)
         ])
 
-    pub looked_at : arcs_are_valid t.loops t.arcs ≡ true
-    looked_at = all_from (λ c. is_valid_arc (free c) c) t.arcs (λ c h. alone_intro (free c) c (less_forward c (st.forward c h)) (goes_round c h))
+    pub looked_at : arcs_are_valid t ≡ true
+    looked_at = all_from_with is_valid_arc t (λ c h. alone_intro (free c) c (less_forward c (st.forward c h)) (goes_round c h))
 
   -- of the vertices inside, those that may stand elsewhere too, sorted
-  module _ (inside few sorted : List Pos) (same : inside ≡ gathered (arc_inside t.loops) t.arcs) (kept : KeepsElsewhere few inside t.arcs) (moved : IsPermutation few sorted)
+  module _ (inside few sorted : List Pos) (same : inside ≡ gathered arc_inside (with_loops t)) (kept : KeepsElsewhere few inside t.arcs) (moved : IsPermutation few sorted)
       (up : IsSorted position_cmp sorted) where
     of_map : IsPermutation inside (insides m)
     of_map = subst (λ w. IsPermutation w (insides m)) (sym same) (insides_of_table t)
@@ -233,7 +233,7 @@ module _ (t : Arcs) where
         let k : equal_neighbours position_eq sorted ≡ true = twins_sorted sorted up (doubled_moved few sorted moved (doubled_few h)) in
         let q : true ≡ false = sym k ∙ e in absurd cc)
 
-    pub apart_intro : Ascends list_cmp t.arcs → arcs_are_valid t.loops t.arcs ≡ true → equal_neighbours position_eq sorted ≡ false → each_ends Apart sorted t.loops t.arcs ≡ true →
+    pub apart_intro : Ascends list_cmp t.arcs → arcs_are_valid t ≡ true → equal_neighbours position_eq sorted ≡ false → each_ends Apart sorted t ≡ true →
         ArcsAreNoded position_cmp t.arcs m
     apart_intro asc e n a = record {
       parted = parted e;
@@ -242,13 +242,13 @@ module _ (t : Arcs) where
       once = no_twins n;
       no_end = λ l h v i k.
           let o = open_has t.loops t.arcs l h in
-          let q : both_are Apart sorted l ≡ true = sym (ap (λ w. w || both_are Apart sorted l) o.1) ∙ all_has (ends_are Apart sorted t.loops) t.arcs a l o.0 in
+          let q : both_are Apart sorted l ≡ true = sym (ap (λ w. w || both_are Apart sorted l) o.1) ∙ all_has_with (ends_are Apart sorted) t a l o.0 in
           ends_out sorted l q v i (has_among sorted v (Has-permutation few sorted v moved (kept.ends l o.0 v i (from_map v k))));
       first = least e;
     }
 
-    pub apart_ends : ArcsAreNoded position_cmp t.arcs m → each_ends Apart sorted t.loops t.arcs ≡ true
-    apart_ends st = all_from (ends_are Apart sorted t.loops) t.arcs (λ c h. go c h (free c) refl)
+    pub apart_ends : ArcsAreNoded position_cmp t.arcs m → each_ends Apart sorted t ≡ true
+    apart_ends st = all_from_with (ends_are Apart sorted) t (λ c h. go c h (free c) refl)
       where
         go : (c : List Pos) → Has c t.arcs → (b : Bool) → free c ≡ b → (b || both_are Apart sorted c) ≡ true
         go c h true f = refl
@@ -263,8 +263,8 @@ module _ (t : Arcs) where
     pub map_sound : IsSound m
     map_sound = (valid_arcs_are_the_maps position_cmp order t.arcs m stand).0
 
-    told : (c : List Pos) → Has c t.arcs → Tells (free c) (Free (JunctionOf m) c)
-    told c h = record {
+    meant : (c : List Pos) → Has c t.arcs → Tells (free c) (Free (JunctionOf m) c)
+    meant c h = record {
       yes = λ f. elim (st.parted.each c h) [
         | inl k ↦ absurd (let q : true ≡ false = sym f ∙ (open_has t.loops t.arcs c k).1 in cc)
         | inr k ↦ subst (Free (JunctionOf m)) (sym k.1) (round k.0 k.2)
@@ -286,6 +286,6 @@ module _ (t : Arcs) where
         let all = valid_arcs_are_the_maps position_cmp order t.arcs m stand in
         record {
           arcs = all.1;
-          free = λ n c e. subst (λ w. Tells (is_loop_if t.loops w) (Free (JunctionOf m) c)) (sym e) (told c (get_has t.arcs n c e));
+          free = λ n c e. subst (λ w. Tells (is_loop_if t.loops w) (Free (JunctionOf m) c)) (sym e) (meant c (get_has t.arcs n c e));
           once = all.2;
         }

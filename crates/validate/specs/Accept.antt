@@ -4,7 +4,6 @@ pub mod Laws
 pub mod Added
 pub mod LineEnds
 pub mod Topology
-pub mod TextArcs
 pub mod Accepted
 pub mod Kept
 pub mod Sorting

@@ -1,5 +1,5 @@
 -- What is checked of arcs as a text has them.
-use Rattle.std.specs.Prelude.{◌≡◌, Bool, true, false, cond, ◌&&◌, ◌↔◌, List, [], ◌∷◌, reverse, Option, Some, None}
+use Rattle.std.specs.Prelude.{◌≡◌, Bool, true, false, cond, ◌&&◌, ◌↔◌, List, [], ◌∷◌, reverse}
 use Rattle.std.specs.List.{list_all}
 use Rattle.std.specs.Ordering.{is_lt, is_gt}
 use Rattle.std.specs.declared.cmp.Ordering.TheVariants.{Less}
@@ -13,7 +13,7 @@ use Rattle.theory.specs.Refinement.{unclosed}
 use Rattle.theory.specs.Validity.{ArcsAreNoded, inner_of}
 use Rattle.arcs.specs.Arcs.{Arcs}
 use Rattle.chains.specs.OfArcs.{table_as_map}
-use Rattle.arcs.specs.Table.{IsTableOf, is_loop, marked}
+use Rattle.arcs.specs.Table.{IsTableOf, marked, with_loops}
 
 -- arcs as they are, of which those that are marked are free loops
 abbrev pub table_read : List (List Pos) → List Bool → Arcs
@@ -42,27 +42,17 @@ abbrev pub begins_least : List Pos → Bool
 begins_least [] = true
 begins_least (x ∷ l) = none_before x l
 
--- what is looked at in an arc alone
-abbrev pub is_valid_arc : Bool → List Pos → Bool
-is_valid_arc free c = cond (is_forward c) (cond free (is_closed position_cmp c && begins_least c) true) false
+-- what is looked at in an arc alone, which may be a free loop
+abbrev pub is_valid_arc : List Pos × Bool → Bool
+is_valid_arc a = cond (is_forward a.0) (cond a.1 (is_closed position_cmp a.0 && begins_least a.0) true) false
 
--- the same of an arc of a table, where there is one
-abbrev pub stands_if : List (List Pos) → Option (List Pos) → Bool
-stands_if loops None = true
-stands_if loops (Some c) = is_valid_arc (is_loop loops c) c
-
--- the same of each arc of a table
-abbrev pub arcs_are_valid : List (List Pos) → List (List Pos) → Bool
-arcs_are_valid loops arcs = list_all (λ c. is_valid_arc (is_loop loops c) c) arcs
+-- whether each arc of a table is valid alone
+abbrev pub arcs_are_valid : Arcs → Bool
+arcs_are_valid t = list_all is_valid_arc (with_loops t)
 
 -- the vertices inside an arc, those of a free loop all
-abbrev pub arc_inside : List (List Pos) → List Pos → List Pos
-arc_inside loops c = cond (is_loop loops c) (unclosed c) (inner_of c)
-
--- the same of an arc, where there is one
-abbrev pub inside_if : List (List Pos) → Option (List Pos) → List Pos
-inside_if loops None = []
-inside_if loops (Some c) = arc_inside loops c
+abbrev pub arc_inside : List Pos × Bool → List Pos
+arc_inside a = cond a.1 (unclosed a.0) (inner_of a.0)
 
 -- the answer is whether the arcs, where they are in order, are apart
 abbrev pub IsApart : Bool → Arcs → Type 0

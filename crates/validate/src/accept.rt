@@ -6,11 +6,9 @@ pub mod laws;
 pub mod lists;
 mod order;
 pub mod sorting;
-pub mod text_arcs;
 pub mod topology;
 
 pub use ends::line_ends;
 pub use lists::lists_are_valid;
 pub use sorting::layers_sorted;
-pub use text_arcs::TextArcs;
 pub use topology::{Accepted, take};

@@ -3,7 +3,7 @@ ghost use Rattle.arcs.specs.Among.{among};
 ghost use Rattle.lines.specs.Turned.{position_cmp};
 ghost use Rattle.validate.specs.EndTests as spec;
 ghost use Rattle.std.specs.List.Sorted.{IsSorted};
-ghost use Rattle.std.specs.Prelude.{◌≡◌, slice_get};
+ghost use Rattle.std.specs.Prelude.{◌≡◌};
 
 use chains::table::ArcTable;
 use grid::pos::Pos;
@@ -44,24 +44,21 @@ fn both_are(ends: EndsHaveToBe, sorted: &[Pos], arc: &[Pos]) -> bool
     }
 }
 
-/// Whether the ends of an arc of a table are where they have to be; a free loop has no ends.
-fn arc_ends_are(ends: EndsHaveToBe, sorted: &[Pos], table: &ArcTable, number: usize) -> bool
+/// Whether the ends of an arc are where they have to be; a free loop has no ends.
+fn ends_are(ends: EndsHaveToBe, sorted: &[Pos], arc: &[Pos], free: bool) -> bool
     requires { IsSorted position_cmp sorted.now }
-    ensures { result ≡ spec.ends_if ends sorted.now table.now.loops (slice_get table.now.arcs number) }
+    ensures { result ≡ spec.ends_are ends sorted.now (arc.now, free) }
 {
-    match table.arc(number) {
-        Some(arc) => table.is_free(number) || both_are(ends, sorted, arc),
-        None => true,
-    }
+    free || both_are(ends, sorted, arc)
 }
 
 /// Whether the ends of each arc of a table are where they have to be.
 pub(crate) fn each_ends(ends: EndsHaveToBe, sorted: &[Pos], table: &ArcTable) -> bool
     requires { IsSorted position_cmp sorted.now }
-    ensures { result ≡ spec.each_ends ends sorted.now table.now.loops table.now.arcs }
+    ensures { result ≡ spec.each_ends ends sorted.now table.now }
 {
-    for number in 0..table.len() {
-        if !arc_ends_are(ends, sorted, table, number) {
+    for (arc, free) in table.with_loops() {
+        if !ends_are(ends, sorted, arc, free) {
             return false;
         }
     }

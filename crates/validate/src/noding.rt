@@ -1,14 +1,12 @@
 //! Arcs as a text has them, checked: in order, each before its own reverse, and no vertex inside one at
 //! another place.
-ghost use Rattle.grid.specs.declared.pos.Pos.{Pos};
+ghost use Rattle.arcs.specs.Table.{with_loops};
 ghost use Rattle.lines.specs.Reading as list;
 ghost use Rattle.lines.specs.Turned.{position_cmp};
 ghost use Rattle.validate.specs.Noding as spec;
-ghost use Rattle.validate.specs.Noding.{AreInOrder, IsApart, arc_inside, inside_if};
-ghost use Rattle.std.specs.Prelude.{◌≡◌, ◌↔◌, ◌++◌, cond, slice_get, true, IfOk, OnOk};
+ghost use Rattle.validate.specs.Noding.{AreInOrder, IsApart, arc_inside};
+ghost use Rattle.std.specs.Prelude.{◌≡◌, ◌↔◌, ◌++◌, true, IfOk, OnOk};
 ghost use Rattle.theory.specs.Lists.{gathered};
-ghost use Rattle.theory.specs.Refinement.{unclosed};
-ghost use Rattle.theory.specs.Validity.{inner_of};
 
 use crate::end_tests::{EndsHaveToBe, each_ends};
 use crate::shared_vertices::vertices_elsewhere;
@@ -72,7 +70,7 @@ fn begins_least(arc: &[Pos]) -> bool
 /// Whether an arc comes before its own reverse and, where it is a free loop, goes round from its least
 /// vertex.
 fn is_valid_arc(arc: &[Pos], free: bool) -> bool
-    ensures { result ≡ spec.is_valid_arc free arc.now }
+    ensures { result ≡ spec.is_valid_arc (arc.now, free) }
 {
     if !is_forward(arc) {
         return false;
@@ -83,20 +81,11 @@ fn is_valid_arc(arc: &[Pos], free: bool) -> bool
     is_closed(arc) && begins_least(arc)
 }
 
-fn is_valid_arc_at(table: &ArcTable, number: usize) -> bool
-    ensures { result ≡ spec.stands_if table.now.loops (slice_get table.now.arcs number) }
-{
-    match table.arc(number) {
-        Some(arc) => is_valid_arc(arc, table.is_free(number)),
-        None => true,
-    }
-}
-
 fn arcs_are_valid(table: &ArcTable) -> bool
-    ensures { result ≡ spec.arcs_are_valid table.now.loops table.now.arcs }
+    ensures { result ≡ spec.arcs_are_valid table.now }
 {
-    for number in 0..table.len() {
-        if !is_valid_arc_at(table, number) {
+    for (arc, free) in table.with_loops() {
+        if !is_valid_arc(arc, free) {
             return false;
         }
     }
@@ -105,7 +94,7 @@ fn arcs_are_valid(table: &ArcTable) -> bool
 
 /// Adds the vertices inside an arc, those of a free loop all.
 fn add_inside(inside: &mut Vec<Pos>, arc: &[Pos], free: bool) -> Result<(), AllocError>
-    ensures { OnOk result (inside.new.items ≡ inside.old.items ++ cond free (unclosed arc.now) (inner_of arc.now)) }
+    ensures { OnOk result (inside.new.items ≡ inside.old.items ++ arc_inside (arc.now, free)) }
 {
     let Some((_, front)) = arc.split_last() else {
         return Ok(());
@@ -119,22 +108,13 @@ fn add_inside(inside: &mut Vec<Pos>, arc: &[Pos], free: bool) -> Result<(), Allo
     }
 }
 
-fn add_inside_of(inside: &mut Vec<Pos>, table: &ArcTable, number: usize) -> Result<(), AllocError>
-    ensures { OnOk result (inside.new.items ≡ inside.old.items ++ inside_if table.now.loops (slice_get table.now.arcs number)) }
-{
-    match table.arc(number) {
-        Some(arc) => add_inside(inside, arc, table.is_free(number)),
-        None => Ok(()),
-    }
-}
-
 /// The vertices inside all arcs.
 fn all_inside(alloc: Global, table: &ArcTable) -> Result<Vec<Pos>, AllocError>
-    ensures { IfOk result (λ v. v.items ≡ gathered (arc_inside table.now.loops) table.now.arcs) }
+    ensures { IfOk result (λ v. v.items ≡ gathered arc_inside (with_loops table.now)) }
 {
     let mut inside = Vec::new(alloc);
-    for number in 0..table.len() {
-        add_inside_of(&mut inside, table, number)?;
+    for (arc, free) in table.with_loops() {
+        add_inside(&mut inside, arc, free)?;
     }
     Ok(inside)
 }

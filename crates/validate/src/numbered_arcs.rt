@@ -3,12 +3,11 @@ ghost use Rattle.grid.specs.declared.pos.Pos.{Pos};
 ghost use Rattle.std.specs.Option.{option_map};
 ghost use Rattle.std.specs.Prelude.{◌≡◌, List, slice_get};
 
-use crate::accept::text_arcs::TextArcs;
 use chains::table::ArcTable;
 use grid::pos::Pos;
 use lines::items::Items;
 
-/// Arcs by their numbers: those of a list, of a table, or of a text.
+/// Arcs by their numbers: those of a list, or of a table.
 pub trait NumberedArcs {
     // The arcs, by their numbers.
     ghost arcs: { Self → List (List Pos) };
@@ -18,8 +17,8 @@ pub trait NumberedArcs {
         ensures { option_map (λ a. a.now) result ≡ slice_get (arcs self.now) number };
 }
 
-impl NumberedArcs for Vec<Items<Pos>> {
-    ghost arcs = { λ v. v.items };
+impl<'a> NumberedArcs for &'a [Items<Pos>] {
+    ghost arcs = { λ s. s.now };
 
     fn arc(&self, number: usize) -> Option<&[Pos]> {
         match self.get(number) {
@@ -31,14 +30,6 @@ impl NumberedArcs for Vec<Items<Pos>> {
 
 impl NumberedArcs for ArcTable {
     ghost arcs = { λ t. t.arcs };
-
-    fn arc(&self, number: usize) -> Option<&[Pos]> {
-        self.arc(number)
-    }
-}
-
-impl NumberedArcs for TextArcs {
-    ghost arcs = { λ a. a };
 
     fn arc(&self, number: usize) -> Option<&[Pos]> {
         self.arc(number)

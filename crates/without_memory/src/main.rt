@@ -74,7 +74,7 @@ fn main(rt: HostRuntime) -> ExitCode {
         Some(words) => run_each(&rt, words.as_slice()),
         None => {
             let mut tally = Tally::new();
-            tally.note(&rt, "without memory", "the words", Outcome::Unprepared);
+            tally.count_call(&rt, "without memory", "the words", Outcome::Unprepared);
             tally.report(&rt)
         }
     }

@@ -6,7 +6,7 @@ mod comparing;
 mod printed;
 mod tables;
 
-pub use comparing::{are_used, has_arcs, is_at, refs_of, same_arcs, stand_at};
+pub use comparing::{are_at, are_used, has_arcs, is_at, refs_of, same_arcs};
 use grid::{Grid, Pos};
 pub use printed::fault_line;
 use shapes::{Feature, FeatureMap, Id, Items, Line, Props, Ring, Shape};
@@ -44,7 +44,7 @@ pub const THIRD: Places = &[(2, 0), (3, 0), (3, 1), (2, 1), (2, 0)];
 /// A triangle whose ring runs against the direction of its arc.
 pub const TRIANGLE: Places = &[(0, 0), (2, 0), (0, 2), (0, 0)];
 
-/// The same triangle, run along the direction of its arc.
+/// The triangle of `TRIANGLE`, run along the direction of its arc.
 pub const TURNED_TRIANGLE: Places = &[(0, 0), (0, 2), (2, 0), (0, 0)];
 
 /// The first two squares.
@@ -198,7 +198,7 @@ pub fn boxed<T: Drop, E: Debug + Drop>(alloc: Global, made: Result<T, E>) -> Res
     Ok(Box::new(alloc, made?)?)
 }
 
-/// The same of a call that makes something or nothing.
+/// What a call made, in a box, or nothing where it made nothing.
 ///
 /// # Errors
 /// As the call, or where memory is refused.

@@ -77,7 +77,7 @@ fn are_joined<S: Shard>(alloc: Global, shards: &[S], union: &Union) -> Result<bo
     Ok(true)
 }
 
-/// The same in each order of the union's texts.
+/// Whether the union's shards have its text in each order and grouping.
 fn is_union<S: Shard>(alloc: Global, union: &Union) -> Result<bool, Fail> {
     for order in ORDERS {
         if order.len() == union.texts.len() {

@@ -365,8 +365,8 @@ const MESH: CommandRow = CommandRow {
     about: "Prints borders as a GeoJSON MultiLineString, each stretch once",
     after: with_faults!(
         "With --by a stretch is printed where two features have it whose values of the\n\
-         property differ. A feature without the property differs from every other, also\n\
-         from another one without it. What one feature has alone is not printed.\n\n\
+         property differ. A feature without the property, or where it is null, differs\n\
+         from every other. What one feature has alone is not printed.\n\n\
          Example: topotool mesh --edges interior country.topo.json\n\
          Example: topotool mesh --by name country.topo.json"
     ),
@@ -396,8 +396,8 @@ const NEIGHBORS: CommandRow = CommandRow {
     after: with_faults!(
         "Prints a list for each feature, in the order in which `feature` prints them,\n\
          of the numbers of the others, from 0. To touch in single points is not to\n\
-         share a border. A feature without the property of --by differs from every\n\
-         other, also from another one without it.\n\n\
+         share a border. A feature without the property of --by, or where it is null,\n\
+         differs from every other.\n\n\
          Example: topotool neighbors --layer districts country.topo.json\n\
          Example: topotool neighbors --by name --layer districts country.topo.json\n\
          Example: topotool neighbors --ids --keyed --layer districts country.topo.json"

@@ -62,6 +62,7 @@ fn nearest(n: i128, d: i128) -> i128
 }
 
 /// An absolute number times what an absolute 1 is worth.
+#[tactic(none)]
 pub(crate) fn worth(absolute: i64, unit: u64) -> i128
     requires { unit ≤ 10 ^ 18 }
     ensures value { result ≡ (absolute *ℤ pos unit) }

@@ -59,7 +59,7 @@ fn text_of_all(alloc: Global, list: &[&str]) -> Result<Option<Vec<u8>>, Fail> {
     text_of(alloc, (*merged).as_ref())
 }
 
-/// The same of borrowed texts.
+/// The merged text of borrowed texts, if they are accepted.
 fn text_of_borrowed(alloc: Global, list: &[&str]) -> Result<Option<Vec<u8>>, Fail> {
     let borrowed = borrow_bytes(alloc, list)?;
     let merged = boxed(alloc, merge_borrowed_topologies(alloc, &borrowed))?;

@@ -112,7 +112,7 @@ fn removal(alloc: Global, row: &Row) -> Result<Box<Removal>, Fail> {
     boxed(alloc, remove(alloc, &*topology, &removed))
 }
 
-/// The same, where the features that are taken out are those of a topology.
+/// A removal where the features that are taken out are those of a topology.
 fn removal_by_topology(alloc: Global, row: &Row) -> Result<Box<Removal>, Fail> {
     let topology = topology_of(alloc, row.topology)?;
     let removed = topology_of(alloc, row.removed)?;

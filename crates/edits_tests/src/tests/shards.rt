@@ -80,7 +80,7 @@ fn check_shards<S: Shard>(
     Ok(())
 }
 
-/// The same of each kind of shard.
+/// Joins the maps as shards of each kind, and compares the text.
 fn check_each_kind(
     rt: &impl Abort,
     alloc: Global,

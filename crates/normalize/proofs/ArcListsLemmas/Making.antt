@@ -13,33 +13,15 @@ use Rattle.lines.proofs.SortedLists.{Has-permutation}
 use Rattle.theory.specs.LinesAndRings.{Trail}
 use Rattle.theory.specs.Lists.{Has}
 use Rattle.theory.specs.TopologyFunction.{same_vertex}
-use Rattle.theory.proofs.Lists.{Has-append_left, Has-append_right, append_nil}
+use Rattle.theory.proofs.Lists.{Has-append_left, Has-append_right}
 use Rattle.normalize.specs.ArcLists.Labels.{agree, agree_from, all_agree, label_at}
 use Rattle.theory.specs.ArcNumbers.{ArcRef}
 use Rattle.normalize.specs.ArcLists.Lists.{segment_count}
-use Rattle.normalize.specs.ArcLists.Segments.{HaveSegments, segment_cmp, segment_in, segments_along, segments_at, segments_if}
-use Rattle.normalize.specs.ArcLists.Summaries.{AreSummaries, IsSummary}
+use Rattle.normalize.specs.ArcLists.Segments.{HaveSegments, segment_cmp, segment_in, segments_along}
 use Rattle.normalize.specs.declared.arc_lists.segments.NumberedSegment.{NumberedSegment}
 use Rattle.normalize.specs.declared.arc_lists.summaries.ArcSummary.{ArcSummary}
-use Rattle.normalize.proofs.Numbered.{at_place, none_left, within, last_or}
+use Rattle.normalize.proofs.Numbered.{behind, none_left, within, last_or}
 use Rattle.normalize.proofs.ArcListsLemmas.Collapsing.{after, collapsed_after}
-
--- ---- summaries
-
--- with summaries of the arcs from a number on, those made so far are those of all
-abbrev pub SummariesSoFar : List (List Pos) → List ArcSummary → ℕ → Type 0
-SummariesSoFar arcs made n = (rest : List ArcSummary) → AreSummaries (drop n arcs) rest → AreSummaries arcs (made ++ rest)
-
-pub summary_made : (arcs : List (List Pos)) (made now : List ArcSummary) (n : ℕ) (s : ArcSummary) → n < length arcs → now ≡ made ++ (s ∷ []) →
-    ((c : List Pos) → slice_get arcs n ≡ Some c → IsSummary c s) → SummariesSoFar arcs made n → SummariesSoFar arcs now (n + 1)
-summary_made arcs made now n s h e is before rest k =
-    let t = at_place n arcs h in
-    subst (AreSummaries arcs) (sym (append_assoc made (s ∷ []) rest) ∙ ap (λ w. w ++ rest) (sym e))
-    (before (s ∷ rest) (subst (λ w. AreSummaries w (s ∷ rest)) (sym t.2) (is t.0 t.1, k)))
-
-pub summaries_made : (arcs : List (List Pos)) (made : List ArcSummary) (n : ℕ) → length arcs ≤ n → SummariesSoFar arcs made n → AreSummaries arcs made
-summaries_made arcs made n h so =
-    subst (AreSummaries arcs) (append_nil made) (so [] (subst (λ w. AreSummaries w []) (sym (none_left n arcs h)) tt))
 
 -- ---- segments
 
@@ -59,14 +41,18 @@ Has-map n s [] h = absurd h
 Has-map n s (t ∷ l) (inl e) = inl (ap (segment_in n) e)
 Has-map n s (t ∷ l) (inr h) = inr (Has-map n s l h)
 
-pub segments_added : (arcs : List (List Pos)) (made now : List NumberedSegment) (n : ℕ) → now ≡ made ++ segments_at arcs n → HaveSegmentsBefore arcs made n → HaveSegmentsBefore arcs now (n + 1)
-segments_added arcs made now n e before i c s h there has =
+pub segments_added : (arcs : List (List Pos)) (made now : List NumberedSegment) (n : ℕ) (x : List Pos) → drop n arcs ≡ x ∷ drop (n + 1) arcs →
+    now ≡ made ++ map (segment_in n) (segments_along x) → HaveSegmentsBefore arcs made n → HaveSegmentsBefore arcs now (n + 1)
+segments_added arcs made now n x left e before i c s h there has =
     subst (Has (segment_in i s)) (sym e)
     (elim (last_or i n h) [
-      | inl k ↦ Has-append_left (segment_in i s) made (segments_at arcs n) (before i c s k there has)
-      | inr k ↦ Has-append_right (segment_in i s) made (segments_at arcs n)
-          (subst (λ m. Has (segment_in i s) (segments_at arcs m)) k
-          (subst (λ o. Has (segment_in i s) (segments_if i o)) (sym there) (Has-map i s (segments_along c) has)))
+      | inl k ↦ Has-append_left (segment_in i s) made (map (segment_in n) (segments_along x)) (before i c s k there has)
+      | inr k ↦
+          let both : Some x ≡ Some c = sym (behind n arcs (drop (n + 1) arcs) x left).1 ∙ subst (λ m. slice_get arcs m ≡ Some c) k there in
+          let same : c ≡ x = cc in
+          Has-append_right (segment_in i s) made (map (segment_in n) (segments_along x))
+          (subst (λ m. Has (segment_in m s) (map (segment_in n) (segments_along x))) (sym k)
+          (Has-map n s (segments_along x) (subst (λ w. Has s (segments_along w)) same has)))
     ])
 
 pub segments_sorted : (arcs : List (List Pos)) (made v : List NumberedSegment) (n : ℕ) → length arcs ≤ n → HaveSegmentsBefore arcs made n → IsPermutation made v → IsSorted segment_cmp v →

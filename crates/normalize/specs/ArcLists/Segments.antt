@@ -1,5 +1,5 @@
 -- The segments of all arcs, each with the number of its arc.
-use Rattle.std.specs.Prelude.{◌≡◌, ℕ, List, [], map, Option, Some, None, slice_get}
+use Rattle.std.specs.Prelude.{◌≡◌, ℕ, List, map, Some, slice_get}
 use Rattle.std.specs.List.Sorted.{IsSorted}
 use Rattle.std.specs.Ordering.{nat_cmp, ordering_then}
 use Rattle.std.specs.declared.cmp.Ordering.{Ordering}
@@ -22,14 +22,6 @@ segment_cmp s t = ordering_then (pair_cmp s.pair t.pair) (nat_cmp s.arc t.arc)
 -- the segments of a list of positions, equal neighbours read as one
 abbrev pub segments_along : List Pos → List PositionPair
 segments_along c = segments_of (collapsed position_cmp c)
-
-abbrev pub segments_if : ℕ → Option (List Pos) → List NumberedSegment
-segments_if n None = []
-segments_if n (Some c) = map (segment_in n) (segments_along c)
-
--- those of the arc of a number
-abbrev pub segments_at : List (List Pos) → ℕ → List NumberedSegment
-segments_at arcs n = segments_if n (slice_get arcs n)
 
 -- the list is in order, and has the segments of all arcs
 pub record HaveSegments (arcs : List (List Pos)) (v : List NumberedSegment) : Type 0 where

@@ -4,8 +4,9 @@ ghost use Rattle.normalize.specs.ArcLists.Labels.{ShareLabels, label_at};
 ghost use Rattle.std.specs.Prelude.{◌≡◌, IfOk, true};
 
 use crate::arc_lists::segments::{NumberedSegment, sorted_segments};
+use grid::pos::Pos;
+use lines::items::Items;
 use std::alloc::{AllocError, Global};
-use validate::accept::TextArcs;
 
 /// The label of an arc, 0 where there is none.
 pub(crate) fn label_of(labels: &[usize], arc: usize) -> usize
@@ -64,7 +65,7 @@ fn join_equal(labels: &mut Vec<usize>, segments: &[NumberedSegment]) {
 }
 
 /// Gives each arc the label of the arc at which its way ends.
-fn settle(labels: &mut Vec<usize>) {
+fn flatten(labels: &mut Vec<usize>) {
     for arc in 0..labels.len() {
         let root = root_of(labels, arc);
         if arc < labels.len() {
@@ -108,7 +109,7 @@ fn labels_by(
 {
     let mut labels = own_labels(alloc, count)?;
     join_equal(&mut labels, segments);
-    settle(&mut labels);
+    flatten(&mut labels);
     if all_agree(&labels, segments) {
         return Ok(labels);
     }
@@ -116,7 +117,7 @@ fn labels_by(
 }
 
 /// A label of each arc. Arcs that share a segment have one label.
-pub(crate) fn labels_of(alloc: Global, arcs: &TextArcs) -> Result<Vec<usize>, AllocError>
+pub(crate) fn labels_of(alloc: Global, arcs: &[Items<Pos>]) -> Result<Vec<usize>, AllocError>
     ensures { IfOk result (λ v. ShareLabels arcs.now v.items) }
 {
     let segments = sorted_segments(alloc, arcs)?;

@@ -14,23 +14,24 @@ use crate::arc_lists::summaries::{ArcSummary, summaries_of};
 use crate::arc_lists::verdict::ListVerdict;
 use chains::ArcRef;
 use faults::OutOfMemory;
+use grid::pos::Pos;
+use lines::items::Items;
 use lines::neighbours::has_equal_neighbours;
 use lines::shape_fault::ShapeFault;
 use std::alloc::{AllocError, Global};
-use validate::accept::TextArcs;
 use validate::{ends_along, run};
 
 /// Whether each used arc is there, and has a position.
-fn have_ends(arcs: &TextArcs, used: &[ArcRef]) -> bool
+fn have_ends(arcs: &[Items<Pos>], used: &[ArcRef]) -> bool
     ensures { result ≡ spec.all_have_ends arcs.now used.now }
 {
-    used.iter().all(|arc| ends_along(arcs, *arc).is_some())
+    used.iter().all(|arc| ends_along(&arcs, *arc).is_some())
 }
 
 /// The arcs of a text, and what lists have to know of them.
 #[derive(Drop)]
 pub struct ArcLists<'a> {
-    pub arcs: &'a TextArcs,
+    pub arcs: &'a [Items<Pos>],
     summaries: Vec<ArcSummary>,
     labels: Vec<usize>,
     ghost known: { AreSummaries arcs.now summaries.items } by { AreSummaries-prop arcs.now summaries.items },
@@ -188,7 +189,7 @@ impl ArcLists<'_> {
     pub fn line(&self, alloc: Global, used: &[ArcRef]) -> Result<ListVerdict, OutOfMemory>
         ensures { IfOk result (IsListVerdict (line_fault position_cmp) self.now.arcs.now used.now) }
     {
-        let Some((start, end)) = run(self.arcs, used) else {
+        let Some((start, end)) = run(&self.arcs, used) else {
             return Ok(self.verdict_without_run(used));
         };
         let count = self.segment_count(used);
@@ -218,7 +219,7 @@ impl ArcLists<'_> {
     pub fn ring(&self, alloc: Global, used: &[ArcRef]) -> Result<ListVerdict, OutOfMemory>
         ensures { IfOk result (IsListVerdict (ring_fault position_cmp) self.now.arcs.now used.now) }
     {
-        let Some((start, end)) = run(self.arcs, used) else {
+        let Some((start, end)) = run(&self.arcs, used) else {
             return Ok(self.verdict_without_run(used));
         };
         if start != end {
@@ -243,7 +244,7 @@ impl<'a> ArcLists<'a> {
     ///
     /// # Errors
     /// Where memory is refused.
-    pub fn new(alloc: Global, arcs: &'a TextArcs) -> Result<ArcLists<'a>, OutOfMemory>
+    pub fn new(alloc: Global, arcs: &'a [Items<Pos>]) -> Result<ArcLists<'a>, OutOfMemory>
         ensures { IfOk result (λ l. l.arcs.now ≡ arcs.now) }
     {
         let summaries = summaries_of(alloc, arcs)?;

@@ -1,11 +1,11 @@
 //! The segments of all arcs, each with the number of its arc.
-ghost use Rattle.normalize.specs.ArcLists.Segments.{HaveSegments, segment_in, segments_along, segments_at};
+ghost use Rattle.normalize.specs.ArcLists.Segments.{HaveSegments, segment_in, segments_along};
 ghost use Rattle.std.specs.Prelude.{◌≡◌, ◌++◌, IfOk, OnOk, map as map_list};
 
 use grid::pos::Pos;
+use lines::items::Items;
 use lines::pair::PositionPair;
 use std::alloc::{AllocError, Global};
-use validate::accept::TextArcs;
 
 /// A segment of the arc of a number.
 #[derive(Clone, Copy, PartialEq, Eq, PartialOrd, Ord)]
@@ -38,30 +38,16 @@ fn add_segments(
     Ok(())
 }
 
-/// Adds the segments of the arc of a number, where there is one.
-fn add_segments_of(
-    segments: &mut Vec<NumberedSegment>,
-    arcs: &TextArcs,
-    number: usize,
-) -> Result<(), AllocError>
-    ensures { OnOk result (segments.new.items ≡ segments.old.items ++ segments_at arcs.now number) }
-{
-    match arcs.arc(number) {
-        Some(arc) => add_segments(segments, number, arc),
-        None => Ok(()),
-    }
-}
-
 /// The segments of all arcs, in order.
 pub(crate) fn sorted_segments(
     alloc: Global,
-    arcs: &TextArcs,
+    arcs: &[Items<Pos>],
 ) -> Result<Vec<NumberedSegment>, AllocError>
     ensures { IfOk result (λ v. HaveSegments arcs.now v.items) }
 {
     let mut segments = Vec::new(alloc);
-    for number in 0..arcs.len() {
-        add_segments_of(&mut segments, arcs, number)?;
+    for (number, arc) in arcs.iter().enumerate() {
+        add_segments(&mut segments, number, arc.as_slice())?;
     }
     segments.sort_unstable();
     Ok(segments)

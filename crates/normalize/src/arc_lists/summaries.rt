@@ -8,10 +8,10 @@ ghost use Rattle.theory.specs.LinesAndRings.{Trail};
 
 use faults::OutOfMemory;
 use grid::pos::Pos;
+use lines::items::Items;
 use lines::line::Line;
 use lines::shape_fault::ShapeFault;
 use std::alloc::Global;
-use validate::accept::TextArcs;
 
 /// What lists have to know of an arc.
 #[derive(Clone, Copy)]
@@ -54,14 +54,6 @@ fn is_line(alloc: Global, positions: &[Pos]) -> Result<bool, OutOfMemory>
 impl ArcSummary {
     ghost use Rattle.normalize.specs.ArcLists.Summaries.{IsSummary};
 
-    /// What is known of no arc.
-    fn none() -> ArcSummary {
-        ArcSummary {
-            count: 0,
-            simple: false,
-        }
-    }
-
     fn of(alloc: Global, arc: &[Pos]) -> Result<ArcSummary, OutOfMemory>
         ensures { IfOk result (IsSummary arc.now) }
     {
@@ -75,24 +67,18 @@ impl ArcSummary {
         let simple = is_line(alloc, arc)?;
         Ok(ArcSummary { count, simple })
     }
-
-    fn of_number(alloc: Global, arcs: &TextArcs, number: usize) -> Result<ArcSummary, OutOfMemory>
-        ensures { IfOk result (λ s. (c : List place) → slice_get arcs.now number ≡ Some c → IsSummary c s) }
-    {
-        match arcs.arc(number) {
-            Some(arc) => ArcSummary::of(alloc, arc),
-            None => Ok(ArcSummary::none()),
-        }
-    }
 }
 
 /// What is known of each arc.
-pub(crate) fn summaries_of(alloc: Global, arcs: &TextArcs) -> Result<Vec<ArcSummary>, OutOfMemory>
+pub(crate) fn summaries_of(
+    alloc: Global,
+    arcs: &[Items<Pos>],
+) -> Result<Vec<ArcSummary>, OutOfMemory>
     ensures { IfOk result (λ v. AreSummaries arcs.now v.items) }
 {
     let mut summaries = Vec::with_capacity(alloc, arcs.len())?;
-    for number in 0..arcs.len() {
-        summaries.push(ArcSummary::of_number(alloc, arcs, number)?)?;
+    for arc in arcs {
+        summaries.push(ArcSummary::of(alloc, arc.as_slice())?)?;
     }
     Ok(summaries)
 }

@@ -110,7 +110,7 @@ fn topology_of<N: AsStr, T: AsSlice<u8>>(
     ensures refused { IfErr result (IsRefusal grid.now (map (λ s. T.items s.1) texts.now)) }
 {
     let map = read_layers(alloc, grid, texts)?;
-    Ok(Topology::build(alloc, grid, &map)?)
+    Ok(Topology::build_owned(alloc, grid, map)?)
 }
 
 /// The features of GeoJSON texts, each after its layer's name.

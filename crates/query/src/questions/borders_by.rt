@@ -20,7 +20,7 @@ use topo::Topology;
 
 /// The borders of a layer's features, or without a layer of the features of all layers, at which a property differs, as
 /// lines: those of the segments that two features have whose values of the property differ. A feature without the
-/// property differs from every other feature, also from one without it. No feature is stitched.
+/// property, or where it is null, differs from every other feature. No feature is stitched.
 ///
 /// # Errors
 /// `NoLayer` where the topology has no layer of that name; `OutOfMemory`.

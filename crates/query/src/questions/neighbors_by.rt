@@ -15,8 +15,8 @@ use std::alloc::Global;
 use topo::Topology;
 
 /// For each feature of a layer, in order, the indexes of the other features of the layer that share a segment with it and
-/// whose values of the property differ from its own, ascending. A feature without the property differs from every other
-/// feature, also from one without it.
+/// whose values of the property differ from its own, ascending. A feature without the property, or where it is null,
+/// differs from every other feature.
 ///
 /// # Errors
 /// `NoLayer` where the topology has no layer of that name; `OutOfMemory`.

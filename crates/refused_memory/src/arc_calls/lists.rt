@@ -1,5 +1,6 @@
 //! Lists of arcs that are cut again.
 
+use arcs::{NewLists, replace_arcs};
 use chains::{ArcRef, ArcTable};
 use faults::OutOfMemory;
 use refused_calls::calls::Borrowed;
@@ -55,6 +56,12 @@ fn ring(alloc: Global, lists: &Lists) -> Result<bool, OutOfMemory> {
     Ok(are_used(made.as_slice(), &[5, -5]))
 }
 
+fn replaced(alloc: Global, lists: &Lists) -> Result<bool, OutOfMemory> {
+    let used = [ArcRef::from_index(2)];
+    let made = replace_arcs(alloc, &lists.recut.lists(Side::Left), &used)?;
+    Ok(are_used(made.as_slice(), &[2, 4, -4]))
+}
+
 /// The tables of two squares and of a third.
 fn tables(alloc: Global, lists: &Lists) -> Result<Vec<ArcTable>, OutOfMemory> {
     let mut tables = Vec::with_capacity(alloc, 2)?;
@@ -70,13 +77,13 @@ fn all(alloc: Global, lists: &Lists) -> Result<bool, OutOfMemory> {
 
 fn line_of_all(alloc: Global, lists: &Lists) -> Result<bool, OutOfMemory> {
     let recut = recut_all(alloc, tables(alloc, lists)?)?;
-    let made = recut.line(alloc, 0, &[ArcRef::from_index(2)])?;
+    let made = recut.lists(0).line(alloc, &[ArcRef::from_index(2)])?;
     Ok(are_used(made.as_slice(), &[2, 4, -4]))
 }
 
 fn ring_of_all(alloc: Global, lists: &Lists) -> Result<bool, OutOfMemory> {
     let recut = recut_all(alloc, tables(alloc, lists)?)?;
-    let made = recut.ring(alloc, 1, &[ArcRef::from_index(-1)])?;
+    let made = recut.lists(1).ring(alloc, &[ArcRef::from_index(-1)])?;
     Ok(are_used(made.as_slice(), &[5, -5]))
 }
 
@@ -86,6 +93,7 @@ enum Call {
     Owned,
     Line,
     Ring,
+    Replaced,
     All,
     LineOfAll,
     RingOfAll,
@@ -95,9 +103,10 @@ const ROWS: &[Row<Call>] = &[
     ("split_heal::recut_owned", Call::Owned),
     ("Recut::line", Call::Line),
     ("Recut::ring", Call::Ring),
+    ("arcs::replace_arcs", Call::Replaced),
     ("split_heal::recut_all", Call::All),
-    ("RecutAll::line", Call::LineOfAll),
-    ("RecutAll::ring", Call::RingOfAll),
+    ("RecutLists::line", Call::LineOfAll),
+    ("RecutLists::ring", Call::RingOfAll),
 ];
 
 impl Lends for Lists {
@@ -120,6 +129,7 @@ impl Lends for Lists {
             Call::Owned => owned(alloc, self),
             Call::Line => line(alloc, self),
             Call::Ring => ring(alloc, self),
+            Call::Replaced => replaced(alloc, self),
             Call::All => all(alloc, self),
             Call::LineOfAll => line_of_all(alloc, self),
             Call::RingOfAll => ring_of_all(alloc, self),

@@ -1,7 +1,7 @@
-//! Segments of arcs, and the longest chains of them.
+//! The pieces of an arc, and the maximal chains over segments.
 
 use crate::arc_calls::pieces::{OF_ARC, SHARED, are_parts};
-use chains::{Segment, cut_arc, maximal, maximal_with, segments_of};
+use chains::{cut_arc, maximal, maximal_with};
 use faults::OutOfMemory;
 use grid::Pos;
 use refused_calls::calls::Borrowed;
@@ -9,15 +9,14 @@ use refused_calls::comparing::are_arcs;
 use refused_calls::inputs::{built, is_of, positions};
 use refused_calls::outcome::Tally;
 use refused_calls::tables::{Lends, Row, both};
-use refused_calls::texts::{FIRST, SHARED_EDGE};
+use refused_calls::texts::FIRST;
 use std::alloc::Global;
 use std::collections::BTreeSet;
 use topo::Topology;
 
-/// Two squares, the first alone, and the ends of the shared side.
+/// The first of two squares, and the ends of the side that they share.
 #[derive(Drop)]
 struct Segments {
-    squares: Topology,
     first: Topology,
     stops: BTreeSet<Pos>,
 }
@@ -33,7 +32,7 @@ fn stops(alloc: Global) -> Option<BTreeSet<Pos>> {
 
 impl Borrowed for Segments {
     fn is_as_before(&self) -> bool {
-        is_of(&self.squares, SHARED_EDGE) && is_of(&self.first, FIRST) && self.stops.len() == 2
+        is_of(&self.first, FIRST) && self.stops.len() == 2
     }
 }
 
@@ -45,21 +44,6 @@ fn arc(alloc: Global, borrowed: &Segments) -> Result<bool, OutOfMemory> {
     }
     let pieces = cut_arc(alloc, arcs, 0, &borrowed.stops)?;
     Ok(are_parts(pieces.as_slice(), OF_ARC))
-}
-
-fn is_shared_side(segments: &[Segment]) -> bool {
-    match segments {
-        [segment] => {
-            let (low, high) = segment.ends();
-            (low.x(), low.y(), high.x(), high.y()) == (1, 0, 1, 1)
-        }
-        _ => false,
-    }
-}
-
-fn list(alloc: Global, borrowed: &Segments) -> Result<bool, OutOfMemory> {
-    let segments = segments_of(alloc, borrowed.squares.arcs(), &[1])?;
-    Ok(is_shared_side(segments.as_slice()))
 }
 
 /// Over no segments there are no chains.
@@ -89,14 +73,12 @@ fn chains_beside(alloc: Global, borrowed: &Segments) -> Result<bool, OutOfMemory
 #[derive(Clone, Copy)]
 enum Call {
     Arc,
-    List,
     Chains,
     ChainsBeside,
 }
 
 const ROWS: &[Row<Call>] = &[
     ("chains::cut_arc", Call::Arc),
-    ("chains::segments_of", Call::List),
     ("chains::maximal", Call::Chains),
     ("chains::maximal_with", Call::ChainsBeside),
 ];
@@ -105,19 +87,13 @@ impl Lends for Segments {
     type Call = Call;
 
     fn make(alloc: Global) -> Option<Segments> {
-        let topologies = both(built(alloc, SHARED_EDGE), built(alloc, FIRST));
-        let ((squares, first), stops) = both(topologies, stops(alloc))?;
-        Some(Segments {
-            squares,
-            first,
-            stops,
-        })
+        let (first, stops) = both(built(alloc, FIRST), stops(alloc))?;
+        Some(Segments { first, stops })
     }
 
     fn answer(&self, alloc: Global, call: Call) -> Result<bool, OutOfMemory> {
         match call {
             Call::Arc => arc(alloc, self),
-            Call::List => list(alloc, self),
             Call::Chains => chains(alloc, self),
             Call::ChainsBeside => chains_beside(alloc, self),
         }

@@ -70,6 +70,16 @@ fn build(alloc: Global, worked: &Worked) -> Answer {
     }
 }
 
+fn build_owned(alloc: Global, worked: &Worked) -> Answer {
+    let Ok(map) = worked.map.copy() else {
+        return Answer::Wanting;
+    };
+    match Topology::build_owned(alloc, &worked.grid, map) {
+        Ok(topology) => Answer::of(is_of(&topology, worked.row.topology)),
+        Err(OutOfMemory) => Answer::Wanting,
+    }
+}
+
 fn build_text(alloc: Global, worked: &Worked) -> Answer {
     match outputs::built_text::build_text(alloc, &worked.grid, worked.sources.as_slice()) {
         Ok(text) => Answer::of(text.as_slice() == worked.row.topology.as_bytes()),
@@ -110,6 +120,7 @@ pub(crate) fn test(rt: &HostRuntime, tally: &mut Tally, worked: &Worked) {
         "topo_io::read_parts" => read_parts,
         "topo_io::is_canonical" => is_canonical,
         "Topology::build" => build,
+        "Topology::build_owned" => build_owned,
         "outputs::build_text" => build_text,
         "outputs::build_borrowed" => build_borrowed,
         "outputs::build_topology" => build_topology,

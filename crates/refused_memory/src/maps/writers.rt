@@ -56,7 +56,7 @@ fn wanting_if(is_right: bool) -> Answer {
     }
 }
 
-/// The same to a script without answers.
+/// Writes the map to a script without answers, which refuses it.
 fn offer_to_script(alloc: Global, worked: &Worked) -> Answer {
     let mut script = Script::new(alloc, Vec::new(alloc));
     let text = worked.text.as_slice();

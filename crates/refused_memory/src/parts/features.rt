@@ -52,6 +52,16 @@ fn copy_props(alloc: Global, features: &Features) -> Result<bool, OutOfMemory> {
     }
 }
 
+fn value_text(alloc: Global, features: &Features) -> Result<bool, OutOfMemory> {
+    let Some(feature) = features.feature() else {
+        return Ok(false);
+    };
+    match feature.props.value_text(alloc, "n")? {
+        Some(text) => Ok(text.as_str() == "1"),
+        None => Ok(false),
+    }
+}
+
 fn copy_id(alloc: Global, features: &Features) -> Result<bool, OutOfMemory> {
     match features.feature() {
         Some(feature) => Ok(feature.id.copy(alloc)? == feature.id),
@@ -147,6 +157,7 @@ fn set(alloc: Global, features: &Features) -> Result<bool, OutOfMemory> {
 #[derive(Clone, Copy)]
 enum Call {
     CopyProps,
+    ValueText,
     CopyId,
     CopyShape,
     MapShape,
@@ -157,6 +168,7 @@ enum Call {
 
 const ROWS: &[Row<Call>] = &[
     ("Props::copy", Call::CopyProps),
+    ("Props::value_text", Call::ValueText),
     ("Id::copy", Call::CopyId),
     ("Form::copy, of a shape", Call::CopyShape),
     ("Form::try_map", Call::MapShape),
@@ -177,6 +189,7 @@ impl Lends for Features {
     fn answer(&self, alloc: Global, call: Call) -> Result<bool, OutOfMemory> {
         match call {
             Call::CopyProps => copy_props(alloc, self),
+            Call::ValueText => value_text(alloc, self),
             Call::CopyId => copy_id(alloc, self),
             Call::CopyShape => copy_shape(alloc, self),
             Call::MapShape => map_shape(alloc, self),

@@ -15,7 +15,6 @@ use shapes::FeatureMap;
 use sinks::{Buffered, Sink, put};
 use std::alloc::Global;
 use std::io::Cursor;
-use validate::accept::TextArcs;
 
 /// The first square.
 const GEOJSON: &str =
@@ -68,13 +67,12 @@ fn read_tokens(alloc: Global, square: &Square) -> Result<bool, OutOfMemory> {
 
 /// The features of a text's parts.
 fn map(alloc: Global, square: &Square) -> Result<bool, OutOfMemory> {
-    let parts = match topo_io::read_parts(alloc, FIRST.as_bytes()) {
-        Ok(parts) => parts,
+    let (arcs, layers) = match topo_io::read_parts(alloc, FIRST.as_bytes()) {
+        Ok(parts) => (parts.arcs, parts.layers),
         // So it stops too where memory is refused to a part that is read by way of its value.
         Err(Stop::OutOfMemory | Stop::Unread) => return Err(OutOfMemory),
     };
-    let arcs = TextArcs::from_list(parts.arcs);
-    match topo_io::map_of_parts(alloc, &arcs, parts.layers)? {
+    match topo_io::map_of_parts(alloc, &arcs, layers)? {
         Some(map) => Ok(same_map(&map, &square.map)),
         None => Ok(false),
     }

@@ -3,13 +3,14 @@
 ghost use Rattle.validate.specs.Accept.Laws.{HaveI64};
 
 use crate::topo_io_tests::texts::{built_text, is_read_as_built};
-use grid::Grid;
+use grid::{Grid, Pos};
+use lines::items::Items;
 use normalize::{normalize, without_repeats};
 use std::alloc::Global;
 use std::test::Fail;
 use topo::Layer;
 use topo_io::read_parts;
-use validate::accept::{Accepted, TextArcs, layers_sorted, take};
+use validate::accept::{Accepted, layers_sorted, take};
 use worked_maps::{boxed, rows};
 
 /// The text of a topology on the unit grid with these arcs and these geometries, in the order in which
@@ -27,7 +28,7 @@ macro_rules! topology {
 }
 
 /// Whether arcs and layers are taken once they are normalized.
-fn are_taken(alloc: Global, grid: Grid, arcs: &TextArcs, layers: &[Layer]) -> Result<bool, Fail>
+fn are_taken(alloc: Global, grid: Grid, arcs: &[Items<Pos>], layers: &[Layer]) -> Result<bool, Fail>
     requires { HaveI64 layers.now }
 {
     let Some(normalized) = normalize(alloc, arcs, layers)? else {
@@ -45,10 +46,9 @@ fn is_taken_normalized(alloc: Global, text: &str) -> Result<bool, Fail> {
     let Ok(parts) = read_parts(alloc, text.as_bytes()) else {
         return Err("refused".into());
     };
-    let arcs = TextArcs::from_list(parts.arcs);
-    match without_repeats(alloc, &arcs, &parts.layers)? {
+    match without_repeats(alloc, &parts.arcs, &parts.layers)? {
         Some(without) => are_taken(alloc, parts.grid, &without.arcs, &without.layers),
-        None => are_taken(alloc, parts.grid, &arcs, &parts.layers),
+        None => are_taken(alloc, parts.grid, &parts.arcs, &parts.layers),
     }
 }
 

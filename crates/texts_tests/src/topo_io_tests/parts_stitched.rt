@@ -5,14 +5,12 @@ use std::alloc::Global;
 use std::test::Fail;
 use topo::Topology;
 use topo_io::{TextParts, map_of_parts, read_parts, text_of};
-use validate::accept::TextArcs;
 use worked_maps::{boxed, rows};
 
 /// The map of the text's parts, where they stitch.
 fn map_of(alloc: Global, text: &str) -> Result<Option<FeatureMap>, Fail> {
     let TextParts { arcs, layers, .. } = read_parts(alloc, text.as_bytes())?;
-    let arcs = Box::new(alloc, TextArcs::from_list(arcs))?;
-    Ok(map_of_parts(alloc, &*arcs, layers)?)
+    Ok(map_of_parts(alloc, &arcs, layers)?)
 }
 
 /// Whether a map, on the grid of the text, has the canonical text of what the whole text means.

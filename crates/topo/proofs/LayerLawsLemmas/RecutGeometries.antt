@@ -25,7 +25,8 @@ use Rattle.topo.specs.Bodies as bodies
 use Rattle.shapes.specs.declared.form.Form.TheVariants as to
 use Rattle.topo.specs.declared.geom.Geom.{Geom}
 use Rattle.topo.proofs.Sound.{are_sound}
-use Rattle.topo.specs.Rewritten.{ListRule, body_rewritten}
+use Rattle.arcs.specs.ListRules.{ListRule}
+use Rattle.topo.specs.Rewritten.{body_rewritten}
 use Rattle.topo.specs.LayerLaws.Cuts.{geometry_recut, line_recut, ring_recut}
 use Rattle.topo.proofs.LayerLawsLemmas.UnitedGeometry.{gives}
 

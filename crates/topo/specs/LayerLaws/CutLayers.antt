@@ -5,9 +5,7 @@ use Rattle.std.specs.Ordering.{nat_cmp}
 use Rattle.std.specs.declared.cmp.Ordering.{Ordering}
 use Rattle.grid.specs.declared.pos.Pos.{Pos}
 use Rattle.shapes.specs.Parts.{spelled_text}
-use Rattle.shapes.specs.declared.feature.Feature.{Feature}
 use Rattle.theory.specs.ArcNumbers.{ArcRef}
-use Rattle.topo.specs.Features.{IsKnownOf}
 use Rattle.topo.specs.GeometryOrder.{geometry_cmp}
 use Rattle.topo.specs.Parts.{LayerParts}
 use Rattle.topo.specs.declared.geom.Geom.{Geom}
@@ -38,11 +36,6 @@ with_other both x (Some y) = both x y
 abbrev pub to_first : {A : Type 0} → (A → A → Ordering) → A → List A → Option Ordering
 to_first cmp x [] = None
 to_first cmp x (y ∷ ys) = Some (cmp x y)
-
--- what is known is the feature of the first of the geometries
-abbrev pub IsKnownOfFirst : List (List Pos) → List Geom → Option Feature → Type 0
-IsKnownOfFirst arcs [] known = Unit {0}
-IsKnownOfFirst arcs (g ∷ gs) known = IsKnownOf arcs g known
 
 -- a layer by the arcs that the old ones are cut into
 abbrev pub layer_recut : List (List Pos) → List (List ArcRef) → LayerParts → LayerParts

@@ -75,16 +75,16 @@ fn line_order(arcs: &ArcTable, used: &[ArcRef], other: &[ArcRef]) -> Ordering
 fn turned_order(
     arcs: &ArcTable,
     used: &[ArcRef],
-    place: usize,
+    index: usize,
     other: &[ArcRef],
-    other_place: usize,
+    other_index: usize,
 ) -> Ordering
-    requires place { place ≤ length used.now }
-    requires other_place { other_place ≤ length other.now }
-    ensures { result ≡ starts_cmp arcs.now.arcs (turned used.now place) (turned other.now other_place) }
+    requires index { index ≤ length used.now }
+    requires other_index { other_index ≤ length other.now }
+    ensures { result ≡ starts_cmp arcs.now.arcs (turned used.now index) (turned other.now other_index) }
 {
-    let (front, back) = used.split_at(place);
-    let (other_front, other_back) = other.split_at(other_place);
+    let (front, back) = used.split_at(index);
+    let (other_front, other_back) = other.split_at(other_index);
     back.iter()
         .chain(front)
         .map(|arc| arcs.first_step(*arc))

@@ -11,6 +11,7 @@ use crate::reader::position::{DeltaPosition, Limits};
 use crate::reader::stitching::{IndexOf, stitch};
 use faults::fault::{Fault, FaultKind};
 use grid::pos::Pos;
+use lines::items::Items;
 use reading::geometry::GeometryType;
 use reading::info::read_info;
 use reading::part::{Part, read_list, read_member, type_fault};
@@ -19,7 +20,6 @@ use serde_json::Value;
 use shapes::feature::Feature;
 use shapes::shape::Shape;
 use std::alloc::Global;
-use validate::accept::TextArcs;
 
 fn text_or_null(value: &Value) -> Result<Option<&str>, FaultKind>
     ensures ok { IfOk result (λ s. text_or_null_of (view value.now) ≡ Ok (option_map (λ t. t.now) s)) }
@@ -46,7 +46,7 @@ pub fn type_or_null(value: &Value) -> Result<Option<&str>, FaultKind>
 /// What geometries are read with: the topology's arcs, and the limits of positions.
 #[derive(Clone, Copy)]
 pub struct Ground<'a> {
-    pub arcs: &'a TextArcs,
+    pub arcs: &'a [Items<Pos>],
     pub limits: Limits,
 }
 
@@ -76,12 +76,8 @@ pub(crate) fn body_name(kind: GeometryType) -> &'static str
     ensures { result.now ≡ name_of_body kind }
 {
     match kind {
-        GeometryType::Point => "coordinates",
-        GeometryType::MultiPoint => "coordinates",
-        GeometryType::LineString => "arcs",
-        GeometryType::MultiLineString => "arcs",
-        GeometryType::Polygon => "arcs",
-        GeometryType::MultiPolygon => "arcs",
+        GeometryType::Point | GeometryType::MultiPoint => "coordinates",
+        _ => "arcs",
     }
 }
 

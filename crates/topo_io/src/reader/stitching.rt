@@ -14,17 +14,17 @@ ghost use Rattle.topo_io.specs.Arcs.{known, used_arc, along, no_arc_faults, inde
 use chains::ArcRef;
 use faults::fault::{Fault, FaultKind};
 use grid::pos::Pos;
+use lines::items::Items;
 use reading::number::whole_number;
 use reading::outline::{Outline, read_outline};
 use reading::part::{Part, keep};
 use serde_json::Value;
 use std::alloc::Global;
-use validate::accept::TextArcs;
 
 /// An index of one of the arcs.
 #[derive(Clone, Copy)]
 pub struct IndexOf<'a> {
-    pub arcs: &'a TextArcs,
+    pub arcs: &'a [Items<Pos>],
 }
 
 #[tactic(auto, using(crate::proofs::Indexes::number_of_index, crate::proofs::Indexes::along_index))]
@@ -138,7 +138,7 @@ fn append_reversed(alloc: Global, list: &mut Vec<Pos>, arc: &[Pos]) -> Result<()
 fn append_used(
     alloc: Global,
     list: &mut Vec<Pos>,
-    arcs: &TextArcs,
+    arcs: &[Items<Pos>],
     used: ArcRef,
 ) -> Result<(), Fault>
     ensures meets { OnOk result (meets list.old.items (along arcs.now used) ≡ true) }
@@ -146,12 +146,12 @@ fn append_used(
     ensures broken { IfErr result (λ f. f.kind ≢ OutOfMemory → meets list.old.items (along arcs.now used) ≡ false) }
     ensures err { IfErr result (λ f. LeastOrWant (here Broken) f) }
 {
-    match arcs.arc(used.arc) {
+    match arcs.get(used.arc) {
         Some(arc) => {
             if used.reversed {
-                append_reversed(alloc, list, arc)
+                append_reversed(alloc, list, arc.as_slice())
             } else {
-                append(alloc, list, arc)
+                append(alloc, list, arc.as_slice())
             }
         }
         None => Ok(()),
@@ -159,7 +159,7 @@ fn append_used(
 }
 
 /// The arcs one after the other, one of two equal ends dropped.
-pub(crate) fn stitch(alloc: Global, arcs: &TextArcs, used: &[ArcRef]) -> Result<Vec<Pos>, Fault>
+pub(crate) fn stitch(alloc: Global, arcs: &[Items<Pos>], used: &[ArcRef]) -> Result<Vec<Pos>, Fault>
     ensures made { IfOk result (λ l. stitched (map (along arcs.now) used.now) ≡ Some l.items) }
     ensures err { IfErr result (λ f. (of : List Pos → List Pair) → LeastOrWant (stitched_faults of (stitched (map (along arcs.now) used.now))) f) }
 {
@@ -173,7 +173,7 @@ pub(crate) fn stitch(alloc: Global, arcs: &TextArcs, used: &[ArcRef]) -> Result<
 /// The line, or the closed ring, that used arcs stitch to.
 pub(crate) fn stitched_to<O: Outline>(
     alloc: Global,
-    arcs: &TextArcs,
+    arcs: &[Items<Pos>],
     used: &[ArcRef],
 ) -> Result<O, Fault>
     ensures ok { OnOk result (stitched_faults (λ ps. outline_faults (O.fault ps)) (stitched (map (along arcs.now) used.now)) ≡ []) }

@@ -11,12 +11,12 @@ use crate::validity::list::{OutlineType, judge_list};
 use chains::ArcRef;
 use faults::OutOfMemory;
 use faults::fault::FaultKind;
+use grid::pos::Pos;
 use lines::items::Items;
 use normalize::arc_lists::ArcLists;
 use shapes::form_parts::FormParts;
 use std::alloc::Global;
 use topo::{Body, Geom, Layer};
-use validate::accept::TextArcs;
 
 fn list_stitches(
     alloc: Global,
@@ -81,7 +81,7 @@ fn geometries_stitch(
 /// Where memory is refused.
 pub(crate) fn layers_stitch(
     alloc: Global,
-    arcs: &TextArcs,
+    arcs: &[Items<Pos>],
     layers: &[Layer],
 ) -> Result<bool, OutOfMemory>
     ensures { IfOk result (IsJudged (AllByRecursion (λ l. LayerStitches arcs.now (layer_of_geoms l)) layers.now)) }

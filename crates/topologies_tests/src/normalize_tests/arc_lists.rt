@@ -5,7 +5,6 @@ use lines::shape_fault::ShapeFault;
 use normalize::arc_lists::{ArcLists, ListVerdict};
 use std::alloc::Global;
 use std::test::Fail;
-use validate::accept::TextArcs;
 use worked_maps::{Places, are_used, lists, refs_of};
 
 /// Arcs, a list of indexes, and what is told of it.
@@ -156,26 +155,26 @@ fn has_verdicts(
     Ok(lists.line(alloc, used)? == row.line && lists.ring(alloc, used)? == row.ring)
 }
 
-fn is_told(alloc: Global, row: &Row) -> Result<bool, Fail> {
-    let arcs = Box::new(alloc, TextArcs::from_list(lists(alloc, row.arcs)?))?;
+fn is_answered(alloc: Global, row: &Row) -> Result<bool, Fail> {
+    let arcs = lists(alloc, row.arcs)?;
     let used = refs_of(alloc, row.list)?;
-    let lists = ArcLists::new(alloc, &*arcs)?;
+    let lists = ArcLists::new(alloc, &arcs)?;
     has_verdicts(alloc, &lists, &used, row)
 }
 
 #[test]
 fn verdicts_of_lists(rt: HostRuntime) -> Result<(), Fail> {
     for row in ROWS {
-        assert!(rt; is_told(rt.alloc(), row)?, "{}", row.title);
+        assert!(rt; is_answered(rt.alloc(), row)?, "{}", row.title);
     }
     Ok(())
 }
 
 /// The list of a row without the arcs that have no segment.
 fn without_points(alloc: Global, row: &Row) -> Result<Vec<ArcRef>, Fail> {
-    let arcs = Box::new(alloc, TextArcs::from_list(lists(alloc, row.arcs)?))?;
+    let arcs = lists(alloc, row.arcs)?;
     let used = refs_of(alloc, row.list)?;
-    let lists = ArcLists::new(alloc, &*arcs)?;
+    let lists = ArcLists::new(alloc, &arcs)?;
     Ok(lists.without_points(alloc, &used)?)
 }
 

@@ -1,6 +1,7 @@
 //! Arcs and layers of texts as tables of rows have them.
 use crate::places::Arcs;
 use chains::ArcRef;
+use grid::Pos;
 use lines::items::Items;
 use normalize::{Normalized, WithoutRepeats, normalize, without_repeats};
 use shapes::props::Props;
@@ -9,7 +10,6 @@ use shapes::spelled::Spelled;
 use std::alloc::Global;
 use std::test::Fail;
 use topo::{Body, Geom, Layer};
-use validate::accept::TextArcs;
 use worked_maps::{boxed, boxed_some, lists, refs_of};
 
 /// Lists of used arcs by their indexes.
@@ -81,14 +81,10 @@ pub(crate) fn layers_of(alloc: Global, layers: Layers) -> Result<Vec<Layer>, Fai
     Ok(made)
 }
 
-pub(crate) fn text_arcs(alloc: Global, arcs: Arcs) -> Result<Box<TextArcs>, Fail> {
-    Ok(Box::new(alloc, TextArcs::from_list(lists(alloc, arcs)?))?)
-}
-
 /// What comes of arcs and layers.
 pub(crate) fn normalize_layers(
     alloc: Global,
-    arcs: &TextArcs,
+    arcs: &[Items<Pos>],
     layers: Layers,
 ) -> Result<Option<Box<Normalized>>, Fail> {
     let layers = layers_of(alloc, layers)?;
@@ -110,19 +106,14 @@ fn is_layer(alloc: Global, layer: &Layer, name: &str, listed: &Listed) -> Result
 }
 
 /// Whether these are the arcs.
-fn are_arcs(alloc: Global, made: &TextArcs, arcs: Arcs) -> Result<bool, Fail> {
-    for (number, arc) in lists(alloc, arcs)?.iter().enumerate() {
-        if made.arc(number) != Some(arc.as_slice()) {
-            return Ok(false);
-        }
-    }
-    Ok(made.len() == arcs.len())
+fn are_arcs(alloc: Global, made: &[Items<Pos>], arcs: Arcs) -> Result<bool, Fail> {
+    Ok(made == lists(alloc, arcs)?.as_slice())
 }
 
 /// What is left of arcs and layers without repeated positions.
 pub(crate) fn left_without(
     alloc: Global,
-    arcs: &TextArcs,
+    arcs: &[Items<Pos>],
     layers: Layers,
 ) -> Result<Option<Box<WithoutRepeats>>, Fail> {
     let layers = layers_of(alloc, layers)?;

@@ -1,12 +1,12 @@
 //! Texts that are normalized.
 use crate::normalize_tests::drawn::{
-    Layers, Listed, is_left, is_made, left_without, normalize_layers, text_arcs,
+    Layers, Listed, is_left, is_made, left_without, normalize_layers,
 };
 use crate::places::{A, Arcs, B, C, D, E, F, G, H, I, J};
-use chains::ArcTable;
+use grid::Pos;
+use lines::items::Items;
 use std::alloc::Global;
 use std::test::Fail;
-use validate::accept::TextArcs;
 use worked_maps::lists;
 
 /// Arcs and layers of a text, and what is made of them.
@@ -162,6 +162,14 @@ const ROWS: &[Row] = &[
         made_arcs: &[&[A, B]],
         made_layers: &[("a", Listed::Line(&[1]))],
     },
+    // From A the loop goes to D and to B; backwards to B first.
+    Row {
+        title: "a loop that begins elsewhere, and is read the other way",
+        arcs: &[&[D, B, A, D]],
+        layers: &[("a", Listed::Polygon(&[&[0]]))],
+        made_arcs: &[&[A, D, B, A]],
+        made_layers: &[("a", Listed::Polygon(&[&[0]]))],
+    },
     Row {
         title: "a ring of an arc of one position",
         arcs: &[&[A]],
@@ -172,7 +180,7 @@ const ROWS: &[Row] = &[
 ];
 
 /// Whether the arcs, and the layers of a row, make what the row says.
-fn makes(alloc: Global, arcs: &TextArcs, row: &Row) -> Result<bool, Fail> {
+fn makes(alloc: Global, arcs: &[Items<Pos>], row: &Row) -> Result<bool, Fail> {
     match normalize_layers(alloc, arcs, row.layers)? {
         Some(made) => is_made(alloc, &*made, row.made_arcs, row.made_layers),
         None => Ok(false),
@@ -182,8 +190,8 @@ fn makes(alloc: Global, arcs: &TextArcs, row: &Row) -> Result<bool, Fail> {
 #[test]
 fn texts_normalized(rt: HostRuntime) -> Result<(), Fail> {
     for row in ROWS {
-        let arcs = text_arcs(rt.alloc(), row.arcs)?;
-        assert!(rt; makes(rt.alloc(), &*arcs, row)?, "{}", row.title);
+        let arcs = lists(rt.alloc(), row.arcs)?;
+        assert!(rt; makes(rt.alloc(), &arcs, row)?, "{}", row.title);
     }
     Ok(())
 }
@@ -217,8 +225,8 @@ const REPEATS: &[Row] = &[
 #[test]
 fn repeated_positions_are_dropped(rt: HostRuntime) -> Result<(), Fail> {
     for row in REPEATS {
-        let arcs = text_arcs(rt.alloc(), row.arcs)?;
-        let Some(left) = left_without(rt.alloc(), &*arcs, row.layers)? else {
+        let arcs = lists(rt.alloc(), row.arcs)?;
+        let Some(left) = left_without(rt.alloc(), &arcs, row.layers)? else {
             return Err(row.title.into());
         };
         assert!(rt;
@@ -232,30 +240,7 @@ fn repeated_positions_are_dropped(rt: HostRuntime) -> Result<(), Fail> {
 
 #[test]
 fn arcs_that_repeat_no_position_stay(rt: HostRuntime) -> Result<(), Fail> {
-    let arcs = text_arcs(rt.alloc(), SQUARES)?;
-    assert!(rt; left_without(rt.alloc(), &*arcs, SQUARE_LAYERS)?.is_none());
-    Ok(())
-}
-
-/// A loop's arc and ring of a table. From A the loop goes to D and to B; backwards to B first.
-const TABLED: &Row = &Row {
-    title: "arcs of a table",
-    arcs: &[&[D, B, A, D]],
-    layers: &[("a", Listed::Polygon(&[&[0]]))],
-    made_arcs: &[&[A, D, B, A]],
-    made_layers: &[("a", Listed::Polygon(&[&[0]]))],
-};
-
-fn table_arcs(alloc: Global, arcs: Arcs) -> Result<Box<TextArcs>, Fail> {
-    match ArcTable::from_sorted(alloc, lists(alloc, arcs)?, &[])? {
-        Some(table) => Ok(Box::new(alloc, TextArcs::from_table(table))?),
-        None => Err("out of order".into()),
-    }
-}
-
-#[test]
-fn arcs_of_a_table(rt: HostRuntime) -> Result<(), Fail> {
-    let arcs = table_arcs(rt.alloc(), TABLED.arcs)?;
-    assert!(rt; makes(rt.alloc(), &*arcs, TABLED)?, "{}", TABLED.title);
+    let arcs = lists(rt.alloc(), SQUARES)?;
+    assert!(rt; left_without(rt.alloc(), &arcs, SQUARE_LAYERS)?.is_none());
     Ok(())
 }

@@ -1,6 +1,6 @@
 -- Where lists of used arcs begin and end, and the lines that they stitch to.
 use Rattle.std.proofs.Common.{◌≡◌, ◌↔◌, ℕ, ◌+◌, ◌<◌, ◌≤◌, List, [], ◌∷◌, ◌++◌, drop, get_or, length, inl, inr, sym, ap, ◌∙◌, subst, append_assoc}
-use Rattle.std.proofs.lemmas.List.{append-nil}
+use Rattle.std.proofs.lemmas.List.{append-nil, drop_all}
 use Rattle.grid.specs.declared.pos.Pos.{Pos}
 use Rattle.theory.specs.ArcNumbers.{ArcRef, StitchFrom, StitchTo}
 use Rattle.theory.specs.Geometry.{Geometry}
@@ -10,7 +10,6 @@ use Rattle.theory.proofs.Lists.{last_join}
 use Rattle.theory.proofs.ListsOfLists.{Has-gathered, gathered_from}
 use Rattle.theory.proofs.UsersOfArcs.{partner, partner_back}
 use Rattle.chains.proofs.Layers.{gathered-append}
-use Rattle.chains.proofs.Siding.{none_left}
 use Rattle.lines.proofs.Dropping.{drop_item}
 use Rattle.validate.specs.ArcEnds.{line_ends}
 use Rattle.validate.specs.FreeLoops.{AreLineEnds}
@@ -57,4 +56,4 @@ module _ (arcs : List (List Pos)) where
         ∙ g
 
     pub no_more_ends : (old all : List Pos) → length xs ≤ i → old ++ gathered (line_ends arcs) (gathered l (drop i xs)) ≡ all → old ≡ all
-    no_more_ends old all h g = sym (append-nil old) ∙ ap (λ w. old ++ gathered (line_ends arcs) (gathered l w)) (sym (none_left xs i h)) ∙ g
+    no_more_ends old all h g = sym (append-nil old) ∙ ap (λ w. old ++ gathered (line_ends arcs) (gathered l w)) (sym (drop_all i xs h)) ∙ g

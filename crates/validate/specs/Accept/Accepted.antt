@@ -18,4 +18,4 @@ IfWhole (Not arcs layers) P = Unit {0}
 -- where they are not, the arcs and the layers that are given back have it
 abbrev pub IfNot : Accepted → (List (List Pos) → List LayerParts → Type 0) → Type 0
 IfNot (Whole t) P = Unit {0}
-IfNot (Not arcs layers) P = P arcs layers.items
+IfNot (Not arcs layers) P = P arcs.items layers.items

@@ -10,7 +10,6 @@ ghost use Rattle.theory.specs.Arcs.{Ascends};
 ghost use Rattle.topo.specs.OfMap.{ArePartsOf, IsOf};
 
 use crate::accept::order::in_order;
-use crate::accept::text_arcs::TextArcs;
 use crate::accept::{line_ends, lists_are_valid};
 use crate::{arcs_in_order, free_loops, is_noded};
 use chains::table::ArcTable;
@@ -27,7 +26,10 @@ pub enum Accepted {
     /// The topology, where they are in order.
     Whole(Topology),
     /// The arcs and the layers, as they were, where they don't.
-    Not { arcs: TextArcs, layers: Vec<Layer> },
+    Not {
+        arcs: Vec<Items<Pos>>,
+        layers: Vec<Layer>,
+    },
 }
 
 /// The table of arcs in order, of which those are free loops at whose seam no other arc ends and none of
@@ -36,7 +38,7 @@ fn table_of(alloc: Global, arcs: Vec<Items<Pos>>, layers: &[Layer]) -> Result<Ar
     requires { Ascends list_cmp arcs.items }
     ensures { IfOk result (λ t. t ≡ spec.table_of arcs.items layers.now) }
 {
-    let ends = line_ends(alloc, &arcs, layers)?;
+    let ends = line_ends(alloc, &arcs.as_slice(), layers)?;
     let free = free_loops(alloc, &arcs, ends)?;
     match ArcTable::from_sorted(alloc, arcs, &free)? {
         Some(table) => Ok(table),
@@ -82,7 +84,7 @@ fn of_table(
     ensures back { IfOk result (λ o. IfNot o (λ cs ls. (cs ≡ table.arcs) × (ls ≡ layers.items))) }
 {
     if !are_valid_in_order(alloc, &table, &layers)? {
-        let arcs = TextArcs::from_table(table);
+        let arcs = table.into_arcs(alloc)?;
         return Ok(Accepted::Not { arcs, layers });
     }
     Ok(Accepted::Whole(Topology::from_parts(grid, table, layers)))
@@ -111,7 +113,6 @@ pub fn take(
     ensures back { IfOk result (λ o. IfNot o (λ cs ls. (cs ≡ arcs.items) × (ls ≡ layers.items))) }
 {
     if !arcs_in_order(&arcs) {
-        let arcs = TextArcs::from_list(arcs);
         return Ok(Accepted::Not { arcs, layers });
     }
     let table = table_of(alloc, arcs, &layers)?;

@@ -6,7 +6,7 @@ use chains::ordered::is_rising;
 use chains::{ArcRef, ArcTable, Piece, VisitIndex, cut_ring, turn_ring};
 use grid::{Grid, Pos};
 use merging::shard::same_grid;
-use refused_calls::comparing::{are_used, stand_at};
+use refused_calls::comparing::{are_at, are_used};
 use refused_calls::handed::Handed;
 use refused_calls::inputs::{built, is_of, read};
 use refused_calls::outcome::Tally;
@@ -23,7 +23,7 @@ use topo::{ArcSlice, Body, Geom, Layer, Topology, Walk, kind_order};
 const SHARED: Places = &[(1, 0), (1, 1)];
 
 fn is_shared_side(piece: &Piece) -> bool {
-    stand_at(piece.chain(), SHARED) && !piece.reversed() && !piece.is_free()
+    are_at(piece.chain(), SHARED) && !piece.reversed() && !piece.is_free()
 }
 
 /// The ring of the first square is its shared side, and then the other sides, backwards.
@@ -48,7 +48,7 @@ fn finds(topology: &Topology, pieces: &[Piece]) -> bool {
 
 fn has_arc(topology: &Topology) -> bool {
     match topology.arcs().arc(1) {
-        Some(arc) => stand_at(arc, SHARED) && topology.arcs().arc(3).is_none(),
+        Some(arc) => are_at(arc, SHARED) && topology.arcs().arc(3).is_none(),
         None => false,
     }
 }
@@ -122,11 +122,6 @@ fn takes_last(topology: &Topology) -> bool {
 fn runs_behind_first(topology: &Topology) -> bool {
     let mut run = ArcSlice::behind_first(topology.arcs(), ArcRef::from_index(-1));
     is_at(run.take_first(), 0, 1) && run.len() == 2
-}
-
-fn runs_until(topology: &Topology) -> bool {
-    let run = run(topology);
-    run.until(run.len()).len() == 4
 }
 
 fn runs_behind(topology: &Topology) -> bool {
@@ -217,6 +212,20 @@ fn has_no_line(topology: &Topology) -> bool {
     }
 }
 
+fn has_one_polygon(topology: &Topology) -> bool {
+    match square(topology) {
+        Some(body) => body.line_slice().is_empty() && body.polygons().len() == 1,
+        None => false,
+    }
+}
+
+fn has_name_of_kind(topology: &Topology) -> bool {
+    match square(topology) {
+        Some(body) => body.kind_name() == "Polygon",
+        None => false,
+    }
+}
+
 fn has_no_point(topology: &Topology) -> bool {
     match square(topology) {
         Some(body) => body.points().is_empty(),
@@ -269,6 +278,7 @@ fn test_table(rt: &HostRuntime, tally: &mut Tally, arcs: &ArcTable) {
         "ArcRef::flip" => flips(),
         "ArcTable::len" => arcs.len() == 3,
         "ArcTable::iter" => arcs.iter().count() == 3,
+        "ArcTable::with_loops" => arcs.with_loops().count() == 3,
         "ArcTable::first_step" => has_first_step(arcs),
         "ArcStep::first_along" => begins_along(arcs),
         "ArcStep::first_against" => begins_against(arcs),
@@ -284,7 +294,6 @@ fn test_runs(rt: &HostRuntime, tally: &mut Tally, topology: &Topology) {
         "ArcSlice::take_first" => takes_first(topology),
         "ArcSlice::take_last" => takes_last(topology),
         "ArcSlice::len" => run(topology).len() == 4,
-        "ArcSlice::until" => runs_until(topology),
         "ArcSlice::behind" => runs_behind(topology),
         "ArcSlice::is_along" => runs_along(topology),
     );
@@ -295,6 +304,7 @@ fn test_topology(rt: &HostRuntime, tally: &mut Tally, topology: &Topology) {
         "Layer::name" => has_name(topology),
         "Layer::geometries" => has_name(topology),
         "topo::kind_order" => has_one_kind(topology),
+        "Topology::is_on_grid_of" => topology.is_on_grid_of(topology),
         "Topology::grid" => Some(topology.grid()) == Grid::new(1, 1, 0, 0),
         "Topology::arcs" => topology.arcs().len() == 3,
         "Topology::layers" => topology.layers().len() == 1,
@@ -305,6 +315,9 @@ fn test_topology(rt: &HostRuntime, tally: &mut Tally, topology: &Topology) {
         "Form::rings" => has_rings(topology),
         "Form::parts" => has_lists(topology),
         "Form::points" => has_no_point(topology),
+        "Form::line_slice" => has_one_polygon(topology),
+        "Form::polygons" => has_one_polygon(topology),
+        "Form::kind_name" => has_name_of_kind(topology),
         "topo_io::is_text_of" => is_text(topology),
         "topo::is_same" => has_equal_places(topology),
         "merging::same_grid" => is_same_alone(topology.grid()),
@@ -319,7 +332,7 @@ fn is_named(layer: Layer, name: Spelled) -> bool {
     old.text() == "a" && layer.name().text() == "b" && layer.geometries().len() == 2
 }
 
-/// The same of the first layer.
+/// The first layer, under another name.
 fn names_again(layers: Vec<Layer>, name: Spelled) -> bool {
     match layers.into_iter().next() {
         Some(layer) => is_named(layer, name),

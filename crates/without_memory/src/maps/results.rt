@@ -1,5 +1,6 @@
 //! What is made of topologies: arcs cut again and joined again, removals, sessions and shards.
 
+use arcs::HavePieces;
 use chains::{ArcRef, ArcTable};
 use faults::OutOfMemory;
 use grid::Grid;
@@ -90,6 +91,7 @@ impl Results {
         rows!(rt, tally;
             "Recut::arcs" => self.recut.arcs().len() == 6,
             "Recut::pieces" => has_cut(&self.recut),
+            "Recut::lists" => is_list(self.recut.lists(Side::Left).pieces(2), &[2, 4, -4]),
             "HealedArcs::arcs" => self.healed.arcs().len() == 1,
             "HealedArcs::pieces" => has_healed(&self.healed),
             "Removal::topology" => is_of(self.removal.topology(), FIRST),
@@ -159,10 +161,13 @@ impl Handed for CutAtOnce {
     fn test(self, rt: &HostRuntime, tally: &mut Tally) {
         let has_arcs = self.recut.arcs().len() == 6;
         let has_cut = has_all_cut(&self.recut);
+        let has_lists = is_list(self.recut.lists(1).pieces(0), &[4, -6]);
         let has_arcs_alone = self.recut.into_arcs().len() == 6;
         rows!(rt, tally;
             "RecutAll::arcs" => has_arcs,
             "RecutAll::pieces" => has_cut,
+            "RecutAll::lists" => has_lists,
+            "HavePieces::pieces" => has_lists,
             "RecutAll::into_arcs" => has_arcs_alone,
         );
     }

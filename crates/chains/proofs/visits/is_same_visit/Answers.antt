@@ -1,6 +1,6 @@
 use Rattle.std.proofs.Common.{◌∙◌, get_or, sym}
 use Rattle.lines.proofs.Positions.{position_true, true_false, true_position}
-use Rattle.chains.proofs.NotedPlaces.{same_visit}
+use Rattle.chains.proofs.RecordedIndexes.{same_visit}
 use Rattle.chains.proofs.visits.is_same_visit.Goals as goal
 
 pub returns-then-eq : goal.returns-then-eq

@@ -1,4 +1,3 @@
-use Rattle.std.proofs.Common.{◌≡◌, arith, length, subst}
 use Rattle.lines.proofs.Dropping.{item_at}
 use Rattle.compare.proofs.Tables.{known_none}
 use Rattle.compare.proofs.index.numbers_of.Goals as goal

@@ -1,4 +1,4 @@
-use Rattle.std.proofs.Common.{List, arith, length, sym, subst, ◌∙◌, ◌<◌}
+use Rattle.std.proofs.Common.{arith, length, sym, subst, ◌∙◌, ◌<◌}
 use Rattle.std.specs.Prelude.{true, false, ◌≡◌}
 use Rattle.compare.specs.Differences.{Those}
 use Rattle.compare.specs.Keyed.{keys_in}

@@ -1,4 +1,4 @@
-use Rattle.std.proofs.Common.{List, arith, length, refl, sym, subst, ◌≡◌, ◌<◌}
+use Rattle.std.proofs.Common.{arith, length, refl, sym, subst, ◌≡◌, ◌<◌}
 use Rattle.compare.specs.Keyed.{keys_in}
 use Rattle.compare.specs.Placed.{ArePairs}
 use Rattle.compare.proofs.Listing.{pairs_none, pairs_skip, pairs_take}

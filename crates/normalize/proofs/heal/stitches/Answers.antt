@@ -1,10 +1,8 @@
-use Rattle.std.proofs.Common.{◌∙◌, ap, slice_get}
-use Rattle.arcs.specs.Arcs.{Arcs}
-use Rattle.normalize.proofs.Numbered.{numbered_stitch}
+use Rattle.std.proofs.Common.{subst, sym}
+use Rattle.theory.specs.ArcNumbers.{StitchTo}
+use Rattle.arcs.proofs.ReplacedArcs.{at_some}
 use Rattle.normalize.proofs.heal.stitches.Goals as goal
 
-pub returns-in-Some-pieces : goal.returns-in-Some-pieces
-returns-in-Some-pieces c =
-    λ e d there.
-    numbered_stitch c.args.table.now.arcs c.args.joined.now.arcs.arcs c.args.joined.now.pieces c.args.number c.in-Some-pieces.pieces.now c.in-Some.arc.now d
-    (c.in-Some.ensures ∙ ap (λ (t : Arcs). slice_get t.arcs c.args.number) c.arcs.ensures) c.in-Some-pieces.ensures (c.stitch_to.ensures e) there
+pub returns-in-Some : goal.returns-in-Some
+returns-in-Some c = λ e.
+    subst (λ w. StitchTo c.args.table.now.arcs w c.args.arc.now) (sym (at_some c.args.joined.now.pieces c.args.number c.in-Some.pieces.now c.in-Some.ensures)) (c.stitch_to.ensures e)

@@ -1,15 +1,19 @@
-use Rattle.std.proofs.Common.{◌<◌, ◌≤◌, subst, sym}
+use Rattle.std.proofs.Common.{subst, sym, ◌∙◌}
+use Rattle.lines.proofs.Dropping.{drop_item}
 use Rattle.normalize.specs.Pieces.{ArePieces}
-use Rattle.normalize.proofs.Numbered.{split_all, split_on}
+use Rattle.normalize.proofs.Numbered.{made_all, made_on}
 use Rattle.normalize.proofs.split.all_pieces.Goals as goal
 
 pub loop-number-preserved : goal.loop-number-preserved
 loop-number-preserved c =
-    split_on c.args.table.now.arcs c.args.arcs.now c.loop-number.pieces.items c.push.new.self.items c.loop-number.number c.from_vec.result
-    (subst (λ w. c.loop-number.number < w) c.len-number-end.ensures c.loop-number-test.true) c.in_ok-push.ensures.items
-    (λ d e. subst (ArePieces c.args.table.now.arcs d) (sym c.from_vec.ensures) (c.pieces_of_number-checked.ensures d e)) c.loop-number.invariant
+    let arcs = c.args.arcs.now in
+    let n = c.loop-number.number in
+    let arc = c.index-arcs-number.result in
+    made_on (ArePieces c.args.table.now.arcs) arcs c.loop-number.pieces.items c.push.new.self.items n arc c.from_vec.result
+    (drop_item arcs n arc c.loop-number-test.true c.index-arcs-number.is) c.in_ok-push.ensures.items
+    (subst (ArePieces c.args.table.now.arcs arc) (sym c.from_vec.ensures)
+    (subst (λ w. ArePieces c.args.table.now.arcs w c.checked_pieces-checked.result.items) c.as_slice.ensures c.checked_pieces-checked.ensures))
+    c.loop-number.invariant
 
 pub returns : goal.returns
-returns c =
-    split_all c.args.table.now.arcs c.args.arcs.now c.loop-number.pieces.items c.loop-number.number
-    (subst (λ w. w ≤ c.loop-number.number) c.len-number-end.ensures c.loop-number-test.false) c.loop-number.invariant
+returns c = made_all (ArePieces c.args.table.now.arcs) c.args.arcs.now c.loop-number.pieces.items c.loop-number.number c.loop-number-test.false c.loop-number.invariant

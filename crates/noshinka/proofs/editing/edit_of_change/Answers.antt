@@ -4,5 +4,5 @@ use Rattle.noshinka.proofs.editing.edit_of_change.Goals as goal
 
 pub returns-clause-edit : goal.returns-clause-edit
 returns-clause-edit c =
-    edit_on c.args.topology.now.grid c.args.change.now _ c.in_ok-other.other c.in_ok-edit_of.field-0 c.in_ok-is_removal.ensures.choice c.in_ok-is_removal.ensures.yes c.in_ok-other.ensures.means (c.if-not-on_one_grid.ensures.0 refl)
+    edit_on c.args.topology.now.grid c.args.change.now _ c.in_ok-other.other c.in_ok-edit_of.field-0 c.in_ok-is_removal.ensures.choice c.in_ok-is_removal.ensures.yes c.in_ok-other.ensures.means (c.if-not-is_on_grid_of.ensures.0 refl)
     c.in_ok-edit_of.ensures

@@ -1,7 +1,6 @@
 use Rattle.std.proofs.Common.{drop, get_or, ◌+◌}
-use Rattle.std.proofs.lemmas.List.{drop_more}
+use Rattle.std.proofs.lemmas.List.{drop_all, drop_more}
 use Rattle.query.proofs.Ending.{done_ends, step_ends}
-use Rattle.chains.proofs.Siding.{none_left}
 use Rattle.query.proofs.ends.ends_of.Goals as goal
 
 pub loop-number-preserved : goal.loop-number-preserved
@@ -14,4 +13,4 @@ loop-number-preserved c = λ v w.
 pub returns : goal.returns
 returns c = λ v w.
     done_ends c.loop-number.ends.items c.args.arcs.now.arcs (drop c.loop-number.number-index c.args.chosen.now) _ v w
-    (none_left c.args.chosen.now c.loop-number.number-index c.loop-number-test.false) (c.loop-number.invariant v w)
+    (drop_all c.loop-number.number-index c.args.chosen.now c.loop-number-test.false) (c.loop-number.invariant v w)

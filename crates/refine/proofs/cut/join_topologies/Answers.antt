@@ -11,5 +11,5 @@ returns-clause-of_map c = λ m n hm hn.
 
 pub returns-clause-other_grid : goal.returns-clause-other_grid
 returns-clause-other_grid c =
-    let same = c.on_one_grid.ensures.0 c.if-not-on_one_grid.false in
+    let same = c.is_on_grid_of.ensures.0 c.if-not-is_on_grid_of.false in
     (search rules, λ other. absurd (other same))

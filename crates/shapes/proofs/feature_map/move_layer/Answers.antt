@@ -1,4 +1,4 @@
-use Rattle.std.proofs.Common.{◌≡◌, ◌∙◌, ap, sym, refl, string_bytes, Some, None}
+use Rattle.std.proofs.Common.{◌∙◌, ap, sym, string_bytes, Some, None}
 use Rattle.shapes.specs.Maps.{set_of}
 use Rattle.shapes.proofs.MapLemmas.{on_ok}
 use Rattle.shapes.proofs.UnionLemmas.{set_union_empty}

@@ -1,4 +1,4 @@
-use Rattle.std.proofs.Common.{◌≡◌, refl, sym, ap, ◌∙◌, subst, string_bytes}
+use Rattle.std.proofs.Common.{sym, ap, ◌∙◌, subst}
 use Rattle.std.specs.FinMap as map
 use Rattle.shapes.specs.Sets as set
 use Rattle.shapes.specs.Maps.{features_at}

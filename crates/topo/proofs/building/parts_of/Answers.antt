@@ -8,7 +8,7 @@ use Rattle.topo.proofs.building.parts_of.Goals as goal
 
 pub returns : goal.returns
 returns c =
-    let m = c.args.map.now in
+    let m = c.args.map in
     let cut = c.in_ok-pieces.ensures in
     let pieces = c.in_ok-pieces.field-0.pieces.items in
     let counts = c.in_ok-pieces.field-0.counts.items in

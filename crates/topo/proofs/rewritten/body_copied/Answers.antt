@@ -1,4 +1,4 @@
-use Rattle.std.proofs.Common.{◌≡◌, ◌∙◌, sym}
+use Rattle.std.proofs.Common.{◌∙◌, sym}
 use Rattle.shapes.specs.FormLaws.{form_map_itself}
 use Rattle.topo.proofs.rewritten.body_copied.Goals as goal
 

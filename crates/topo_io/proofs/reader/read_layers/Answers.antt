@@ -13,23 +13,23 @@ use Rattle.topo_io.specs.Roots.{content_faults, layers_if_object}
 use Rattle.topo_io.proofs.Roots.{content_over}
 use Rattle.topo_io.proofs.reader.read_layers.Goals as goal
 
-pub returns-in_err-listed-clause-err : goal.returns-in_err-listed-clause-err
-returns-in_err-listed-clause-err c =
-    let part : LeastOrWant (content_faults c.args.limits.now (view c.args.value.now)) c.in_err-listed.field-0.0 = first_of (name (codes "arcs")) _ _ c.in_err-listed.field-0.0 c.in_err-listed.ensures.err (after_under _ (name (codes "objects")) _ refl) in
+pub returns-in_err-arcs-clause-err : goal.returns-in_err-arcs-clause-err
+returns-in_err-arcs-clause-err c =
+    let part : LeastOrWant (content_faults c.args.limits.now (view c.args.value.now)) c.in_err-arcs.field-0.0 = first_of (name (codes "arcs")) _ _ c.in_err-arcs.field-0.0 c.in_err-arcs.ensures.err (after_under _ (name (codes "objects")) _ refl) in
     search (rules, part)
 
 pub returns-clause-ok : goal.returns-clause-ok
 returns-clause-ok c =
-    let faults = content_over c.args.limits.now (view c.args.value.now) _ _ c.from_list-arcs.ensures c.in_ok-listed.ensures.made c.in_ok-listed.ensures.ok in
+    let faults = content_over c.args.limits.now (view c.args.value.now) _ _ c.deref.ensures.value c.in_ok-arcs.ensures.made c.in_ok-arcs.ensures.ok in
     on_ok_map c.read_objects.result _ _ c.read_objects.ensures.ok (λ none. faults ∙ none)
 
 pub returns-clause-made : goal.returns-clause-made
 returns-clause-made c =
     let v = view c.args.value.now in
-    let arcs = c.from_list-arcs.ensures ∙ zip_is arc_of (elements (member_or_null (codes "arcs") v)) c.in_ok-listed.listed.items c.in_ok-listed.ensures.made in
+    let arcs = c.deref.ensures.value ∙ zip_is arc_of (elements (member_or_null (codes "arcs") v)) c.in_ok-arcs.arcs.items c.in_ok-arcs.ensures.made in
     ok_map c.read_objects.result _ _ c.read_objects.ensures.made (λ ls b. b ∙ ap (λ arcs. layers_if_object arcs (as_object (member_or_null (codes "objects") v))) arcs)
 
 pub returns-clause-err : goal.returns-clause-err
 returns-clause-err c =
-    let faults = content_over c.args.limits.now (view c.args.value.now) _ _ c.from_list-arcs.ensures c.in_ok-listed.ensures.made c.in_ok-listed.ensures.ok in
+    let faults = content_over c.args.limits.now (view c.args.value.now) _ _ c.deref.ensures.value c.in_ok-arcs.ensures.made c.in_ok-arcs.ensures.ok in
     err_map c.read_objects.result _ _ c.read_objects.ensures.err (λ f told. subst (λ ps. LeastOrWant ps f) (sym faults) told)

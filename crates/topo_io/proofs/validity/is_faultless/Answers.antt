@@ -11,5 +11,5 @@ returns-in_ok-layers_stitch-in-Ok c = λ stitch.
     let parts = c.in-Ok.parts in
     said_accepted parts.arcs.items parts.layers.items c.args.bytes.now parts.grid c.in-Ok.ensures.ok
     (subst (λ A. A) (all_mapped (LayerStitches parts.arcs.items) layer_of_geoms parts.layers.items)
-    (subst (λ arcs. AllByRecursion (λ l. LayerStitches arcs (layer_of_geoms l)) parts.layers.items) c.from_list-arcs.ensures
-    (subst (AllByRecursion (λ l. LayerStitches c.from_list-arcs.result (layer_of_geoms l))) c.deref.ensures.value (c.in_ok-layers_stitch-in-Ok.ensures.yes stitch))))
+    (subst (λ arcs. AllByRecursion (λ l. LayerStitches arcs (layer_of_geoms l)) parts.layers.items) c.deref.ensures.value
+    (subst (AllByRecursion (λ l. LayerStitches c.deref.result.now (layer_of_geoms l))) c.deref-in-Ok.ensures.value (c.in_ok-layers_stitch-in-Ok.ensures.yes stitch))))

@@ -22,6 +22,7 @@ use crate::reader::stitching::stitched_to;
 use chains::ArcRef;
 use faults::OutOfMemory;
 use faults::fault::{Fault, FaultKind};
+use grid::pos::Pos;
 use lines::items::Items;
 use lines::line::Line;
 use lines::ring::Ring;
@@ -31,7 +32,6 @@ use shapes::feature_map::FeatureMap;
 use shapes::shape::{Id, Shape};
 use std::alloc::Global;
 use topo::{Body, Geom, Layer};
-use validate::accept::TextArcs;
 
 /// What is stitched together from the arcs of a text.
 trait StitchFrom: Sized + Drop {
@@ -49,7 +49,7 @@ trait StitchFrom: Sized + Drop {
     // What is seen of what they stitch to.
     ghost along: { List (List Pos) → Self.From → Seen };
 
-    fn stitch_from(alloc: Global, arcs: &TextArcs, from: Self::From) -> Result<Self, Fault>
+    fn stitch_from(alloc: Global, arcs: &[Items<Pos>], from: Self::From) -> Result<Self, Fault>
         ensures ok { OnOk result (stitches arcs.now from) }
         ensures made { IfOk result (λ made. seen made ≡ along arcs.now from) }
         ensures err { IfErr result (NotOrWant (stitches arcs.now from)) };
@@ -66,7 +66,7 @@ impl StitchFrom for Line {
 
     ghost along = { line_along };
 
-    fn stitch_from(alloc: Global, arcs: &TextArcs, from: Items<ArcRef>) -> Result<Line, Fault> {
+    fn stitch_from(alloc: Global, arcs: &[Items<Pos>], from: Items<ArcRef>) -> Result<Line, Fault> {
         stitched_to(alloc, arcs, from.as_slice())
     }
 }
@@ -82,7 +82,7 @@ impl StitchFrom for Ring {
 
     ghost along = { ring_along };
 
-    fn stitch_from(alloc: Global, arcs: &TextArcs, from: Items<ArcRef>) -> Result<Ring, Fault> {
+    fn stitch_from(alloc: Global, arcs: &[Items<Pos>], from: Items<ArcRef>) -> Result<Ring, Fault> {
         stitched_to(alloc, arcs, from.as_slice())
     }
 }
@@ -90,7 +90,7 @@ impl StitchFrom for Ring {
 /// What each part stitches to, in their order.
 fn each_stitched<S: StitchFrom>(
     alloc: Global,
-    arcs: &TextArcs,
+    arcs: &[Items<Pos>],
     parts: Vec<S::From>,
 ) -> Result<Vec<S>, Fault>
     ensures ok { OnOk result (AllByRecursion (S.stitches arcs.now) parts.items) }
@@ -118,14 +118,14 @@ impl<S: StitchFrom> StitchFrom for Items<S> {
 
     fn stitch_from(
         alloc: Global,
-        arcs: &TextArcs,
+        arcs: &[Items<Pos>],
         from: Items<S::From>,
     ) -> Result<Items<S>, Fault> {
         Ok(Items::from_vec(each_stitched(alloc, arcs, from.into_vec())?))
     }
 }
 
-fn shape_of(alloc: Global, arcs: &TextArcs, body: Body) -> Result<Shape, Fault>
+fn shape_of(alloc: Global, arcs: &[Items<Pos>], body: Body) -> Result<Shape, Fault>
     ensures ok { OnOk result (BodyStitches arcs.now (body_of body)) }
     ensures made { IfOk result (λ s. plain_form s ≡ form_along arcs.now (body_of body)) }
     ensures err { IfErr result (NotOrWant (BodyStitches arcs.now (body_of body))) }
@@ -163,7 +163,7 @@ impl StitchFrom for Feature {
 
     ghost along = { λ arcs g. feature_along arcs (plain_geom g) };
 
-    fn stitch_from(alloc: Global, arcs: &TextArcs, from: Geom) -> Result<Feature, Fault> {
+    fn stitch_from(alloc: Global, arcs: &[Items<Pos>], from: Geom) -> Result<Feature, Fault> {
         let Geom { id, props, body } = from;
         judge_id(&id);
         let shape = shape_of(alloc, arcs, body)?;
@@ -194,7 +194,11 @@ impl StitchFrom for NamedFeatures {
 
     ghost along = { λ arcs l. layer_along arcs (layer_of_geoms l) };
 
-    fn stitch_from(alloc: Global, arcs: &TextArcs, from: Layer) -> Result<NamedFeatures, Fault> {
+    fn stitch_from(
+        alloc: Global,
+        arcs: &[Items<Pos>],
+        from: Layer,
+    ) -> Result<NamedFeatures, Fault> {
         let (name, geometries) = from.into_parts();
         let features = each_stitched(alloc, arcs, geometries)?;
         let name = name_of(alloc, name.text())?;
@@ -202,7 +206,7 @@ impl StitchFrom for NamedFeatures {
     }
 }
 
-fn stitched_map(alloc: Global, arcs: &TextArcs, layers: Vec<Layer>) -> Result<FeatureMap, Fault>
+fn stitched_map(alloc: Global, arcs: &[Items<Pos>], layers: Vec<Layer>) -> Result<FeatureMap, Fault>
     ensures ok { IfOk result (λ m. (bytes : List ℕ) (g : Transform) → AreSaid bytes g arcs.now layers.items → Means bytes g m) }
     ensures err { IfErr result (NotOrWant (AllByRecursion (LayerStitches arcs.now) (map_list layer_of_geoms layers.items))) }
 {
@@ -218,7 +222,7 @@ fn stitched_map(alloc: Global, arcs: &TextArcs, layers: Vec<Layer>) -> Result<Fe
 /// Where memory is refused.
 pub fn map_of_parts(
     alloc: Global,
-    arcs: &TextArcs,
+    arcs: &[Items<Pos>],
     layers: Vec<Layer>,
 ) -> Result<Option<FeatureMap>, OutOfMemory>
     ensures some { IfOk result (λ o. IfSome o (λ m. (bytes : List ℕ) (g : Transform) → AreSaid bytes g arcs.now layers.items → Means bytes g m)) }

@@ -1,8 +1,8 @@
-use Rattle.std.proofs.Common.{◌≡◌, ◌++◌, drop}
+use Rattle.std.proofs.Common.{◌≡◌, ◌++◌}
+use Rattle.arcs.specs.Table.{with_loops}
 use Rattle.theory.specs.Lists.{gathered}
 use Rattle.validate.specs.Noding.{arc_inside}
 use Rattle.validate.proofs.noding.all_inside.Given as goal
 
-abbrev pub invariant-loop-number : goal.invariant-loop-number
-invariant-loop-number l =
-    l.inside.items ++ gathered (arc_inside l.fn.table.loops) (drop l.number l.fn.table.arcs) ≡ gathered (arc_inside l.fn.table.loops) l.fn.table.arcs
+abbrev pub invariant-loop-arc : goal.invariant-loop-arc
+invariant-loop-arc l = l.inside.items ++ gathered arc_inside l.arc-iterator ≡ gathered arc_inside (with_loops l.fn.table)

@@ -1,6 +1,7 @@
-use Rattle.std.proofs.Common.{◌≡◌, drop}
-use Rattle.validate.specs.Noding.{arcs_are_valid}
+use Rattle.std.proofs.Common.{◌≡◌}
+use Rattle.std.specs.List.{list_all}
+use Rattle.validate.specs.Noding.{arcs_are_valid, is_valid_arc}
 use Rattle.validate.proofs.noding.arcs_are_valid.Given as goal
 
-abbrev pub invariant-loop-number : goal.invariant-loop-number
-invariant-loop-number l = arcs_are_valid l.fn.table.loops (drop l.number l.fn.table.arcs) ≡ arcs_are_valid l.fn.table.loops l.fn.table.arcs
+abbrev pub invariant-loop-arc : goal.invariant-loop-arc
+invariant-loop-arc l = list_all is_valid_arc l.arc-iterator ≡ arcs_are_valid l.fn.table

@@ -1,8 +1,9 @@
-use Rattle.std.proofs.Common.{◌++◌, ◌∙◌, ap}
+use Rattle.std.proofs.Common.{◌++◌, ◌∙◌, ap, length}
+use Rattle.std.proofs.lemmas.List.{length-map}
 use Rattle.theory.specs.Lists.{gathered}
 use Rattle.chains.specs.OfArcs.{arc_ends, tables_as_map}
 use Rattle.chains.specs.VertexFilter.{arc_shared, may_hold, HoldShared}
-use Rattle.chains.specs.Noted.{visits_noted}
+use Rattle.chains.specs.Noted.{visits_recorded}
 use Rattle.arcs.proofs.Extents.{joined_keeps, joined_keeps_other}
 use Rattle.chains.proofs.Same.{same_before, same_equal, same_refl, same_trans}
 use Rattle.chains.proofs.SharedVertices.{all_visits, left_whole, met_kept, right_whole, shared_held}
@@ -37,7 +38,7 @@ returns-clause-arcs c = λ m n sm sn ms nt.
     (c.in_ok-left_marks.ensures.ends ∙ ap (λ w. w ++ gathered (arc_ends s.loops) s.arcs) c.in_ok-seen.ensures.ends))
     (same_refl all) in
     c.in_ok-index.ensures (tables_as_map s t) all
-    (met_kept m n sm sn s t ms nt of_s of_t hold_s hold_t ends (visits_noted c.see_arcs-2.new.self) are
+    (met_kept m n sm sn s t ms nt of_s of_t hold_s hold_t ends (visits_recorded c.see_arcs-2.new.self) are
     (same_trans c.in_ok-right_marks.ensures.visits (same_before (gathered (arc_shared (may_hold of_s) t.loops) t.arcs)
     (same_trans c.in_ok-left_marks.ensures.visits (same_equal (ap (λ w. w ++ gathered (arc_shared (may_hold of_t) s.loops) s.arcs) c.in_ok-seen.ensures.visits))))))
     are
@@ -60,6 +61,12 @@ returns-clause-right c = λ m n sm sn ms nt.
     (left_held (goal.at.returns-clause-right c).After-see_arcs)
     (right_held (goal.at.returns-clause-right c).After-see_arcs)
     c.in_ok-index.index (returns-clause-arcs c m n sm sn ms nt) c.in_ok-right_marks.right_marks.items c.in_ok-right_marks.ensures.marks
+
+pub returns-clause-left_marks : goal.returns-clause-left_marks
+returns-clause-left_marks c = ap length c.in_ok-left_marks.ensures.marks ∙ length-map c.args.left.now.arcs _
+
+pub returns-clause-right_marks : goal.returns-clause-right_marks
+returns-clause-right_marks c = ap length c.in_ok-right_marks.ensures.marks ∙ length-map c.args.right.now.arcs _
 
 pub returns-clause-left_extent : goal.returns-clause-left_extent
 returns-clause-left_extent c = λ arc h p k.

@@ -1,11 +1,11 @@
 use Rattle.std.proofs.Common.{List, ℕ, refl, sym, subst, ◌≡◌, ◌∙◌, true, false}
-use Rattle.std.specs.Prelude.{IfNone, IfSome, IsTrue}
+use Rattle.std.specs.Prelude.{IfNone, IfSome}
 use Rattle.std.specs.BTreeMap as tree
 use Rattle.shapes.specs.declared.shape.Id.{Id}
 use Rattle.topo.specs.declared.geom.Geom.{Geom}
 use Rattle.compare.specs.Indexed.{IsIndexOf, borrowed_id_cmp}
 use Rattle.compare.specs.Placed.{IsOnly}
-use Rattle.compare.proofs.Standings.{only_none, only_some}
+use Rattle.compare.proofs.Counted.{only_none, only_some}
 use Rattle.compare.proofs.index.Index.only_with.Goals as goal
 
 pub returns-then-is_none-clause-none : goal.returns-then-is_none-clause-none

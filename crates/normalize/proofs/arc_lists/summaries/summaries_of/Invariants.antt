@@ -1,5 +1,6 @@
-use Rattle.normalize.proofs.ArcListsLemmas.Making.{SummariesSoFar}
+use Rattle.normalize.specs.ArcLists.Summaries.{IsSummary}
+use Rattle.normalize.proofs.Numbered.{MadeSoFar}
 use Rattle.normalize.proofs.arc_lists.summaries.summaries_of.Given as goal
 
-abbrev pub invariant-loop-number : goal.invariant-loop-number
-invariant-loop-number l = SummariesSoFar l.fn.arcs l.summaries.items l.number
+abbrev pub invariant-loop-arc : goal.invariant-loop-arc
+invariant-loop-arc l = MadeSoFar IsSummary l.fn.arcs l.summaries.items l.arc-index

@@ -8,7 +8,7 @@ returns-clause-topology g c =
     let t = c.args.grid.now in
     let texts = map (λ s. (g.N.AsStr.text s.0, g.T.AsSlice.items s.1)) c.args.texts.now in
     let read = c.in_ok-map.ensures in
-    let built = c.in_ok-build.ensures in
+    let built = c.in_ok-build_owned.ensures in
     record {
       map = c.in_ok-map.map;
       of_texts = read.map;

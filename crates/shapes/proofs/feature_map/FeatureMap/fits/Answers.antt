@@ -1,4 +1,4 @@
-use Rattle.std.proofs.Common.{◌≡◌, ◌∙◌, refl, sym, subst, true, false}
+use Rattle.std.proofs.Common.{◌∙◌, refl, sym, subst}
 use Rattle.shapes.specs.Fitting.{MapFits}
 use Rattle.shapes.proofs.FitsLemmas.{EntriesFit, fits_all, fits_each}
 use Rattle.shapes.proofs.feature_map.FeatureMap.fits.Goals as goal

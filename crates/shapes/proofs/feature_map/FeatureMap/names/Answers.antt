@@ -1,4 +1,4 @@
-use Rattle.std.proofs.Common.{◌≡◌, ◌++◌, ◌∙◌, ap, sym, append-nil}
+use Rattle.std.proofs.Common.{◌++◌, ◌∙◌, ap, sym, append-nil}
 use Rattle.std.specs.FinMap as map
 use Rattle.std.specs.Prelude.{map as map_list}
 use Rattle.shapes.specs.Parts.{spelled_text}

@@ -1,4 +1,4 @@
-use Rattle.std.proofs.Common.{◌≡◌, ◌++◌, List}
+use Rattle.std.proofs.Common.{◌≡◌, ◌++◌}
 use Rattle.std.specs.Prelude.{map as map_list}
 use Rattle.shapes.specs.Parts.{spelled_text}
 use Rattle.shapes.proofs.MapLemmas.{names_of}

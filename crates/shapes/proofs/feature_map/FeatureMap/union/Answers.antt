@@ -1,5 +1,4 @@
-use Rattle.std.proofs.Common.{◌≡◌, ◌∙◌, ap, sym}
-use Rattle.std.specs.Cmp.Lexicographic.{nat_list_cmp_total}
+use Rattle.std.proofs.Common.{◌∙◌, ap}
 use Rattle.shapes.specs.Union.{union}
 use Rattle.shapes.specs.Inside.{layers_of, united_at}
 use Rattle.shapes.proofs.UnionLemmas.{united_twice}

@@ -1,5 +1,4 @@
-use Rattle.std.proofs.Common.{◌∙◌, ap, sym, string_bytes}
-use Rattle.shapes.specs.Inside.{layers_of}
+use Rattle.std.proofs.Common.{◌∙◌}
 use Rattle.shapes.specs.Maps.{set_of, with_features}
 use Rattle.shapes.proofs.feature_map.FeatureMap.with_features.Goals as goal
 

@@ -1,4 +1,4 @@
-use Rattle.std.proofs.Common.{refl, ◌∙◌, subst, IsUtf8}
+use Rattle.std.proofs.Common.{subst, IsUtf8}
 use Rattle.std.proofs.lemmas.Str.{IsUtf8-string_bytes}
 use Rattle.shapes.proofs.PropertiesLemmas.{empty_is_properties, empty_is_lexed}
 use Rattle.shapes.proofs.props.Props.empty.Goals as goal

@@ -3,7 +3,7 @@ use Rattle.std.specs.BTreeMap.{get}
 use Rattle.lines.specs.Turned.{position_cmp}
 use Rattle.lines.proofs.Dropping.{drop_item}
 use Rattle.snapping.specs.NearlyShared.Rest.{moved_to}
-use Rattle.snapping.proofs.NearlySharedLemmas.Settling.{apart_is, none_moved, one_moved, same_is}
+use Rattle.snapping.proofs.NearlySharedLemmas.Clustering.{apart_is, none_moved, one_moved, same_is}
 use Rattle.snapping.proofs.nearly_shared.clusters.move_all.Goals as goal
 use Rattle.snapping.proofs.nearly_shared.clusters.move_all.Goals.{then-ne+in_ok-insert, else-ne}
 

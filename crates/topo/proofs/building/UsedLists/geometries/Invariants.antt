@@ -4,6 +4,6 @@ use Rattle.topo.proofs.building.UsedLists.geometries.Given as goal
 
 abbrev pub invariant-loop-feature : goal.invariant-loop-feature
 invariant-loop-feature l = record {
-  geometries : l.geometries.items ++ geometries_taken l.feature-iterator l.self ≡ geometries_taken l.fn.features.keys l.fn.self;
-  left : features_left l.feature-iterator l.self ≡ features_left l.fn.features.keys l.fn.self;
+  geometries : l.geometries.items ++ geometries_taken l.feature-iterator l.self ≡ geometries_taken l.initial.feature-iterator l.fn.self;
+  left : features_left l.feature-iterator l.self ≡ features_left l.initial.feature-iterator l.fn.self;
 }

@@ -5,7 +5,7 @@ use Rattle.theory.specs.Lists.{Has}
 use Rattle.theory.proofs.ListsOfLists.{get_has}
 use Rattle.snapping.specs.NearlyShared.Joined.{target_in}
 use Rattle.snapping.specs.NearlyShared.Uses.{shape_uses}
-use Rattle.snapping.proofs.NearlySharedLemmas.Settling.{apart_is, same_is}
+use Rattle.snapping.proofs.NearlySharedLemmas.Clustering.{apart_is, same_is}
 use Rattle.snapping.proofs.nearly_shared.clusters.Clusters.moves_any.Goals as goal
 
 pub loop-used-preserved : goal.loop-used-preserved

@@ -1,7 +1,7 @@
 use Rattle.std.proofs.Common.{◌+◌, drop, refl, ◌∙◌}
+use Rattle.std.proofs.lemmas.List.{drop_all}
 use Rattle.validate.specs.Accept.Lists.{lines_of, rings_of}
 use Rattle.topo.specs.BodyLists.{body_lines, body_rings}
-use Rattle.chains.proofs.Siding.{none_left}
 use Rattle.lines.proofs.Dropping.{drop_item}
 use Rattle.validate.proofs.AcceptLemmas.Adding.{loop_done, loop_not, loop_on}
 use Rattle.validate.proofs.accept.lists.ListsSeen.add_geometries.Goals as goal
@@ -24,4 +24,4 @@ loop-geometry-preserved c =
 pub returns : goal.returns
 returns c =
     loop_done c.args.table.now lines_of rings_of (λ g. body_lines g.body) (λ g. body_rings g.body) (λ x xs. refl) (λ x xs. refl) c.args.geometries.now (drop c.loop-geometry.geometry-index c.args.geometries.now) c.args.self.now c.loop-geometry.self
-    c.loop-geometry.invariant.rest (none_left c.args.geometries.now c.loop-geometry.geometry-index c.loop-geometry-test.false) refl refl
+    c.loop-geometry.invariant.rest (drop_all c.loop-geometry.geometry-index c.args.geometries.now c.loop-geometry-test.false) refl refl

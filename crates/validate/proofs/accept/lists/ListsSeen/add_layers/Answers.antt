@@ -1,7 +1,7 @@
 use Rattle.std.proofs.Common.{◌+◌, drop, refl, subst, ◌∙◌}
+use Rattle.std.proofs.lemmas.List.{drop_all}
 use Rattle.validate.specs.Accept.Added.{AreAdded}
 use Rattle.validate.specs.Accept.Lists.{layer_lines, layer_rings, layers_lines, layers_rings, lines_of, rings_of}
-use Rattle.chains.proofs.Siding.{none_left}
 use Rattle.lines.proofs.Dropping.{drop_item}
 use Rattle.validate.proofs.AcceptLemmas.Adding.{loop_done, loop_not, loop_on}
 use Rattle.validate.proofs.accept.lists.ListsSeen.add_layers.Goals as goal
@@ -24,4 +24,4 @@ loop-layer-preserved c =
 pub returns : goal.returns
 returns c =
     loop_done c.args.table.now layers_lines layers_rings layer_lines layer_rings (λ x xs. refl) (λ x xs. refl) c.args.layers.now (drop c.loop-layer.layer-index c.args.layers.now) c.args.self.now c.loop-layer.self
-    c.loop-layer.invariant.rest (none_left c.args.layers.now c.loop-layer.layer-index c.loop-layer-test.false) refl refl
+    c.loop-layer.invariant.rest (drop_all c.loop-layer.layer-index c.args.layers.now c.loop-layer-test.false) refl refl

@@ -1,5 +1,0 @@
-use Rattle.fixing.proofs.LoopSteps.{begun}
-use Rattle.fixing.proofs.loops.LoopWalk.new.Goals as goal
-
-pub returns-clause-left : goal.returns-clause-left
-returns-clause-left c = begun c.new.result.items c.new-2.result.items c.new.ensures.items c.new-2.ensures.items
