@@ -50,8 +50,8 @@ impl Run {
     /// Where memory is refused.
     pub fn fails(&self, text: &[u8], calls: usize, last: Answer) -> Result<bool, AllocError> {
         let mut sink = script(self.alloc, calls, last)?;
-        let is_told = self.tells_failure(&mut sink);
-        Ok(is_told && took(&sink, text, calls.saturating_add(taken_by(last)), 1))
+        let is_answered = self.tells_failure(&mut sink);
+        Ok(is_answered && took(&sink, text, calls.saturating_add(taken_by(last)), 1))
     }
 
     fn assert_fails(&self, title: &str, text: &[u8], last: Answer) -> Result<(), Fail> {

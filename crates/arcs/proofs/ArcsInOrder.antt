@@ -38,5 +38,5 @@ with_marks_loops (c ∷ arcs) (true ∷ marks) = ap (λ w. c ∷ w) (with_marks_
 with_marks_loops (c ∷ arcs) (false ∷ marks) = with_marks_loops arcs marks
 
 -- what the test of the order tells
-pub sorted_told : (arcs : List (List Pos)) (b : Bool) → b ≡ rises arcs → (b ≡ true) ↔ Ascends list_cmp arcs
-sorted_told arcs b e = ((λ h. ascends_rising arcs (sym e ∙ h)), (λ a. e ∙ rising_ascends arcs a))
+pub sorted_means : (arcs : List (List Pos)) (b : Bool) → b ≡ rises arcs → (b ≡ true) ↔ Ascends list_cmp arcs
+sorted_means arcs b e = ((λ h. ascends_rising arcs (sym e ∙ h)), (λ a. e ∙ rising_ascends arcs a))

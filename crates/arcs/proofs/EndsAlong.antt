@@ -20,9 +20,9 @@ second_or d None = d
 second_or d (Some e) = e.1
 
 -- the last of a list behind x, as the code has it
-pub last_told : {A : Type 0} (x a : A) (l : List A) → Some a ≡ slice_get l (length l - 1) → a ≡ last_of x l
-last_told x a [] e = absurd cc
-last_told x a (y ∷ l) e =
+pub last_means : {A : Type 0} (x a : A) (l : List A) → Some a ≡ slice_get l (length l - 1) → a ≡ last_of x l
+last_means x a [] e = absurd cc
+last_means x a (y ∷ l) e =
     let k : length (y ∷ l) - 1 ≡ length l = omega arith in
     let m : Some a ≡ Some (last_of y l) = e ∙ ap (slice_get (y ∷ l)) k ∙ last_get y l in
     let f : a ≡ last_of y l = cc in f

@@ -11,13 +11,13 @@ use Rattle.std.proofs.lemmas.Fn.{fronts}
 use Rattle.std.specs.declared.slice.Iter.{Iter}
 use Rattle.std.proofs.lemmas.Iterator.{YieldsList-from_slice}
 use Rattle.itertools.proofs.AdaptorLemmas.{items_from_whole_run}
-use Rattle.itertools.specs.Extremes.{place_step, position_of, wins}
+use Rattle.itertools.specs.Extremes.{index_step, position_of, wins}
 use Rattle.theory.specs.ArcNumbers.{ArcRef, along}
 use Rattle.theory.specs.Refinement.{first_two}
 use Rattle.grid.specs.declared.pos.Pos.{Pos}
 use Rattle.lines.specs.Positions.{position_total}
 use Rattle.arcs.specs.Keys.{key_cmp}
-use Rattle.arcs.specs.Turning.{least_place, least_place_from, used_key}
+use Rattle.arcs.specs.Turning.{least_index, least_index_from, used_key}
 use Rattle.arcs.proofs.TurnedLists.{keys_compare}
 
 module _ (arcs : List (List Pos)) where
@@ -37,29 +37,29 @@ module _ (arcs : List (List Pos)) where
       ap is_lt (sym (keys_compare l k) ∙ (lists_total position_total).antisymm (first_two l) (first_two k) ∙ ap ordering_reverse (keys_compare k l))
       ∙ other_way (key_cmp (used_key arcs b) (used_key arcs a))
 
-  steps_are : (items : List (Bor ArcRef)) (place : ℕ) (least : Bor ArcRef) (i : ℕ) →
-      (fold (place_step (wins false starts_before)) (place, least, i) items).0 ≡ least_place_from arcs place (used_key arcs least.now) i (map (λ y. y.now) items)
-  steps_are [] place least i = refl
-  steps_are (x ∷ items) place least i =
-      go (starts_before x least) (steps_are items i x (i + 1)) (steps_are items place least (i + 1))
-      ∙ ap (λ b. least_place_from arcs (cond b i place) (cond b (used_key arcs x.now) (used_key arcs least.now)) (i + 1) (map (λ y. y.now) items)) (behind x.now least.now)
+  steps_are : (items : List (Bor ArcRef)) (index : ℕ) (least : Bor ArcRef) (i : ℕ) →
+      (fold (index_step (wins false starts_before)) (index, least, i) items).0 ≡ least_index_from arcs index (used_key arcs least.now) i (map (λ y. y.now) items)
+  steps_are [] index least i = refl
+  steps_are (x ∷ items) index least i =
+      go (starts_before x least) (steps_are items i x (i + 1)) (steps_are items index least (i + 1))
+      ∙ ap (λ b. least_index_from arcs (cond b i index) (cond b (used_key arcs x.now) (used_key arcs least.now)) (i + 1) (map (λ y. y.now) items)) (behind x.now least.now)
     where
       there : ℕ → Bor ArcRef → ℕ
-      there n y = (fold (place_step (wins false starts_before)) (n, y, i + 1) items).0
+      there n y = (fold (index_step (wins false starts_before)) (n, y, i + 1) items).0
 
-      go : (b : Bool) → there i x ≡ least_place_from arcs i (used_key arcs x.now) (i + 1) (map (λ y. y.now) items) →
-          there place least ≡ least_place_from arcs place (used_key arcs least.now) (i + 1) (map (λ y. y.now) items) →
-          (fold (place_step (wins false starts_before)) (if b then (i, x, i + 1) else (place, least, i + 1)) items).0
-          ≡ least_place_from arcs (cond b i place) (cond b (used_key arcs x.now) (used_key arcs least.now)) (i + 1) (map (λ y. y.now) items)
+      go : (b : Bool) → there i x ≡ least_index_from arcs i (used_key arcs x.now) (i + 1) (map (λ y. y.now) items) →
+          there index least ≡ least_index_from arcs index (used_key arcs least.now) (i + 1) (map (λ y. y.now) items) →
+          (fold (index_step (wins false starts_before)) (if b then (i, x, i + 1) else (index, least, i + 1)) items).0
+          ≡ least_index_from arcs (cond b i index) (cond b (used_key arcs x.now) (used_key arcs least.now)) (i + 1) (map (λ y. y.now) items)
       go true f g = f
       go false f g = g
 
-  place_is : (items : List (Bor ArcRef)) → unwrap_or (position_of (wins false starts_before) items) 0 ≡ least_place arcs (map (λ y. y.now) items)
+  place_is : (items : List (Bor ArcRef)) → unwrap_or (position_of (wins false starts_before) items) 0 ≡ least_index arcs (map (λ y. y.now) items)
   place_is [] = refl
   place_is (x ∷ items) = steps_are items 0 x 1
 
   -- in the form of the code
   pub least_found : (it : Iter ArcRef) (used : List ArcRef) (r : Option ℕ) (n : ℕ) → iter_rest it ≡ used →
-      WholeRun (fronts {A = ArcRef}) it (λ p. r ≡ position_of (wins false starts_before) p.items) → n ≡ unwrap_or r 0 → n ≡ least_place arcs used
+      WholeRun (fronts {A = ArcRef}) it (λ p. r ≡ position_of (wins false starts_before) p.items) → n ≡ unwrap_or r 0 → n ≡ least_index arcs used
   least_found it used r n rest (p, from, whole, is) e =
-      e ∙ ap (λ o. unwrap_or o 0) is ∙ place_is p.items ∙ ap (least_place arcs) (items_from_whole_run (YieldsList-from_slice used rest) p from whole)
+      e ∙ ap (λ o. unwrap_or o 0) is ∙ place_is p.items ∙ ap (least_index arcs) (items_from_whole_run (YieldsList-from_slice used rest) p from whole)

@@ -22,7 +22,7 @@ use Rattle.arcs.specs.Table.{same_list}
 use Rattle.arcs.specs.declared.stored.StoredArc.{StoredArc}
 use Rattle.lines.specs.Positions.{position_total, position_same}
 use Rattle.arcs.proofs.Marks.{get_mapped}
-use Rattle.arcs.proofs.Places.{place_is, found_place, place_of_member}
+use Rattle.arcs.proofs.Places.{place_is, found_index, index_of_member}
 use Rattle.arcs.proofs.Rising.{ascends_rising}
 use Rattle.lines.proofs.SortedLists.{Contains-from_has}
 
@@ -56,22 +56,22 @@ no_place q l h = go (nat_lt (position_or_len (same_list q) l) (length l)) refl
     go false e = refl
 
 -- the place of what stands in the list
-pub place_standing : (l : List (List Pos)) (q : List Pos) (i : ℕ) → rises l ≡ true → slice_get l i ≡ Some q → Some i ≡ position (same_list q) l
-place_standing l q i s at =
+pub index_standing : (l : List (List Pos)) (q : List Pos) (i : ℕ) → rises l ≡ true → slice_get l i ≡ Some q → Some i ≡ position (same_list q) l
+index_standing l q i s at =
     let h : Has q l = get_has l i q at in
     ap Some (get_once list_cmp (less_self list_cmp (lists_total position_total) (slice_cmp-IsAntisymmetric position_same)) l
-    i (position_or_len (same_list q) l) q (ascends_rising l s) at (place_of_member q l h))
-    ∙ found_place q l h
+    i (position_or_len (same_list q) l) q (ascends_rising l s) at (index_of_member q l h))
+    ∙ found_index q l h
 
 -- the answer of a search
-pub place_looked : (l : List StoredArc) (q : List Pos) (r : Result ℕ ℕ) → IsSearchInRange r (length l) → IsBinarySearchResult (λ a. list_cmp a.positions q) l r →
+pub index_looked : (l : List StoredArc) (q : List Pos) (r : Result ℕ ℕ) → IsSearchInRange r (length l) → IsBinarySearchResult (λ a. list_cmp a.positions q) l r →
     rises (map positions_of l) ≡ true → result_ok r ≡ position (same_list q) (map positions_of l)
-place_looked l q (Ok i) w p s =
+index_looked l q (Ok i) w p s =
     let d : StoredArc = record { positions = q; free = false } in
     let e : positions_of (get_or l i d) ≡ q = slice_cmp-IsAntisymmetric position_same (positions_of (get_or l i d)) q (p d) in
     let at : slice_get (map positions_of l) i ≡ Some q = get_mapped positions_of l i ∙ ap (option_map positions_of) (get_or_some l i d w) ∙ ap Some e in
-    place_standing (map positions_of l) q i s at
-place_looked l q (Err i) w p s = no_place q (map positions_of l) (λ h.
+    index_standing (map positions_of l) q i s at
+index_looked l q (Err i) w p s = no_place q (map positions_of l) (λ h.
     let m = map_has positions_of l q h in
     let t = Contains-from_has m.0 l m.1 in
     let b = p (searchable_from_sorted (lists_total position_total) positions_of l q (sorted_ascending l (ascends_rising (map positions_of l) s))) in
@@ -85,4 +85,4 @@ place_looked l q (Err i) w p s = no_place q (map positions_of l) (λ h.
 pub looked_by_code : (l items : List StoredArc) (q : List Pos) (r : Result ℕ ℕ) (o : Option ℕ) → items ≡ l → o ≡ result_ok r → IsSearchInRange r (length items) →
     IsBinarySearchResult (λ a. list_cmp a.positions q) items r → rises (map positions_of l) ≡ true → o ≡ position (same_list q) (map positions_of l)
 looked_by_code l items q r o e k w p s =
-    k ∙ place_looked items q r w p (subst (λ u. rises (map positions_of u) ≡ true) (sym e) s) ∙ ap (λ u. position (same_list q) (map positions_of u)) e
+    k ∙ index_looked items q r w p (subst (λ u. rises (map positions_of u) ≡ true) (sym e) s) ∙ ap (λ u. position (same_list q) (map positions_of u)) e

@@ -24,7 +24,7 @@ use Rattle.arcs.specs.declared.piece.Piece.{Piece}
 use Rattle.arcs.specs.declared.stored.StoredArc.{StoredArc}
 use Rattle.lines.specs.Positions.{position_total, position_same}
 use Rattle.arcs.proofs.Merged.{Marked, marked_only, marked_there, merged_only, merged_there}
-use Rattle.arcs.proofs.Places.{any_has, has_any, place_of_member}
+use Rattle.arcs.proofs.Places.{any_has, has_any, index_of_member}
 use Rattle.arcs.proofs.Rising.{ascends_rising}
 use Rattle.lines.proofs.SortedLists.{Has-permutation}
 
@@ -68,9 +68,9 @@ get_mapped f (x ∷ l) zero = refl
 get_mapped f (x ∷ l) (suc n) = get_mapped f l n
 
 -- the answer of the code
-pub free_told : (l : List StoredArc) → rises (map positions_of l) ≡ true → (n : ℕ) (a : StoredArc) → slice_get l n ≡ Some a →
+pub free_means : (l : List StoredArc) → rises (map positions_of l) ≡ true → (n : ℕ) (a : StoredArc) → slice_get l n ≡ Some a →
     a.free ≡ is_loop_if (loops_of l) (slice_get (map positions_of l) n)
-free_told l r n a e =
+free_means l r n a e =
     mark_of l (ascends_rising (map positions_of l) r) a (get_has l n a e)
     ∙ ap (is_loop_if (loops_of l)) (sym (get_mapped positions_of l n ∙ ap (option_map positions_of) e))
 
@@ -107,10 +107,10 @@ module _ (ps sorted : List Piece) (same : IsPermutation ps sorted) where
   }
 
 -- where pieces of one chain carry one mark, the arc of each is told so
-pub alike_told : (ps : List Piece) (t : Arcs) → ((c : List Pos) → Has c (map chain_of ps) → Has c t.arcs) → AreLoopsOf ps t.loops → AreAlike ps →
+pub alike_means : (ps : List Piece) (t : Arcs) → ((c : List Pos) → Has c (map chain_of ps) → Has c t.arcs) → AreLoopsOf ps t.loops → AreAlike ps →
     (p : Piece) → Has p ps → free_at t (number_in t.arcs p) ≡ p.free
-alike_told ps t arcs loops alike p h =
-    ap (is_loop_if t.loops) (place_of_member p.chain t.arcs (arcs p.chain (Has-map chain_of ps p h))) ∙ go p.free refl (is_loop t.loops p.chain) refl
+alike_means ps t arcs loops alike p h =
+    ap (is_loop_if t.loops) (index_of_member p.chain t.arcs (arcs p.chain (Has-map chain_of ps p h))) ∙ go p.free refl (is_loop t.loops p.chain) refl
   where
     go : (f : Bool) → p.free ≡ f → (b : Bool) → is_loop t.loops p.chain ≡ b → b ≡ f
     go true e true k = refl
@@ -123,8 +123,8 @@ alike_told ps t arcs loops alike p h =
 module _ (J : Pos → Type 0) (ps : List Piece) (t : Arcs)
     (good : (p : Piece) → Has p ps → Tells p.free (Free J p.chain))
     (loops : AreLoopsOf ps t.loops) (only : (c : List Pos) → Has c t.arcs → Has c (map chain_of ps)) where
-  told_loop : (c : List Pos) → Has c t.arcs → Tells (is_loop t.loops c) (Free J c)
-  told_loop c h = record {
+  if_loop : (c : List Pos) → Has c t.arcs → Tells (is_loop t.loops c) (Free J c)
+  if_loop c h = record {
     yes = λ f.
         let p = loops.only c (any_has c t.loops f) in
         subst (Free J) (sym p.2) ((good p.0 p.1).yes p.3);
@@ -140,4 +140,4 @@ module _ (J : Pos → Type 0) (ps : List Piece) (t : Arcs)
       marked p k e false g f free = (good p k).no g (subst (Free J) e free)
 
   pub all_marked : (n : ℕ) (c : List Pos) → slice_get t.arcs n ≡ Some c → Tells (free_at t n) (Free J c)
-  all_marked n c e = subst (λ w. Tells (is_loop_if t.loops w) (Free J c)) (sym e) (told_loop c (get_has t.arcs n c e))
+  all_marked n c e = subst (λ w. Tells (is_loop_if t.loops w) (Free J c)) (sym e) (if_loop c (get_has t.arcs n c e))

@@ -26,7 +26,7 @@ use Rattle.arcs.specs.declared.stored.StoredArc.{StoredArc}
 use Rattle.arcs.proofs.KeysFirst.{keys_first}
 use Rattle.arcs.proofs.Marks.{mark_of}
 use Rattle.arcs.proofs.Merged.{Climbs, piece_cmp, rising_from, then_less}
-use Rattle.arcs.proofs.Places.{place_of_member}
+use Rattle.arcs.proofs.Places.{index_of_member}
 use Rattle.arcs.proofs.Rising.{ascends_rising}
 
 pub pieces_placed : (n : ℕ) (ps : List Piece) → map piece_of (placed_from n ps) ≡ ps
@@ -38,14 +38,14 @@ length_placed n [] = refl
 length_placed n (p ∷ ps) = ap suc (length_placed (n + 1) ps)
 
 -- each stands at its place
-at_place : (n : ℕ) (ps : List Piece) (x : Placed) → Has x (placed_from n ps) → (i : ℕ) × (x.place ≡ n + i) × (slice_get ps i ≡ Some x.piece)
+at_place : (n : ℕ) (ps : List Piece) (x : Placed) → Has x (placed_from n ps) → (i : ℕ) × (x.index ≡ n + i) × (slice_get ps i ≡ Some x.piece)
 at_place n [] x h = absurd h
 at_place n (p ∷ ps) x (inl e) =
-    let m : x.place ≡ n = ap (λ w. w.place) e in
+    let m : x.index ≡ n = ap (λ w. w.index) e in
     (0, omega (arith, m), ap Some (sym (ap piece_of e)))
 at_place n (p ∷ ps) x (inr h) =
     let t = at_place (n + 1) ps x h in
-    let m : x.place ≡ (n + 1) + t.0 = t.1 in
+    let m : x.index ≡ (n + 1) + t.0 = t.1 in
     (suc t.0, omega (arith, m), t.2)
 
 -- with the key of its chain
@@ -55,12 +55,12 @@ key_there n (p ∷ ps) x (inl e) = ap (λ w. w.key) e ∙ ap (λ w. key_of w.pie
 key_there n (p ∷ ps) x (inr h) = key_there (n + 1) ps x h
 
 -- and each piece is there
-placed_has : (n : ℕ) (ps : List Piece) (i : ℕ) (p : Piece) (m : ℕ) → m ≡ n + i → slice_get ps i ≡ Some p → Has (record { key = key_of p.chain; piece = p; place = m }) (placed_from n ps)
+placed_has : (n : ℕ) (ps : List Piece) (i : ℕ) (p : Piece) (m : ℕ) → m ≡ n + i → slice_get ps i ≡ Some p → Has (record { key = key_of p.chain; piece = p; index = m }) (placed_from n ps)
 placed_has n [] i p m q e = absurd cc
 placed_has n (r ∷ ps) zero p m q e =
     let k : p ≡ r = (let s : Some r ≡ Some p = e in cc) in
     let l : m ≡ n = omega (arith, q) in
-    inl (λ j. record { key = key_of (k j).chain; piece = k j; place = l j })
+    inl (λ j. record { key = key_of (k j).chain; piece = k j; index = l j })
 placed_has n (r ∷ ps) (suc i) p m q e = inr (placed_has (n + 1) ps i p m (omega (arith, q)) e)
 
 module _ (ps : List Piece) (l : List Placed) (same : IsPermutation (placed_from 0 ps) l) where
@@ -76,14 +76,14 @@ module _ (ps : List Piece) (l : List Placed) (same : IsPermutation (placed_from 
     one = λ x y h k e.
         let a = at_place 0 ps x (back x h) in
         let b = at_place 0 ps y (back y k) in
-        let p : x.place ≡ 0 + a.0 = a.1 in
-        let q : y.place ≡ 0 + b.0 = b.1 in
+        let p : x.index ≡ 0 + a.0 = a.1 in
+        let q : y.index ≡ 0 + b.0 = b.1 in
         let i : a.0 ≡ b.0 = omega (arith, p, q, e) in
         let s : Some x.piece ≡ Some y.piece = sym a.2 ∙ ap (slice_get ps) i ∙ b.2 in
         cc;
     within = λ x h.
         let a = at_place 0 ps x (back x h) in
-        let p : x.place ≡ 0 + a.0 = a.1 in
+        let p : x.index ≡ 0 + a.0 = a.1 in
         let w : a.0 < length ps = slice_get_within ps a.0 x.piece a.2 in
         let m : length (placed_from 0 ps) ≡ length ps = length_placed 0 ps in
         omega (arith, p, w, m, n);
@@ -92,7 +92,7 @@ module _ (ps : List Piece) (l : List Placed) (same : IsPermutation (placed_from 
   pub refs_are : (arcs : List (List Pos)) (refs : List ArcRef) → length refs ≡ length l → length l ≡ length (placed_from 0 ps) → AreRefsOf arcs l refs → refs ≡ map (located arcs) ps
   refs_are arcs refs n m set =
       same_at (located arcs) ps refs (n ∙ m ∙ length_placed 0 ps)
-      (λ i p e. set (record { key = key_of p.chain; piece = p; place = i }) (Has-permutation (placed_from 0 ps) l (record { key = key_of p.chain; piece = p; place = i }) same (placed_has 0 ps i p i (omega arith) e)))
+      (λ i p e. set (record { key = key_of p.chain; piece = p; index = i }) (Has-permutation (placed_from 0 ps) l (record { key = key_of p.chain; piece = p; index = i }) same (placed_has 0 ps i p i (omega arith) e)))
     where
       same_at : {A B : Type 0} (f : A → B) (xs : List A) (ys : List B) → length ys ≡ length xs → ((i : ℕ) (x : A) → slice_get xs i ≡ Some x → slice_get ys i ≡ Some (f x)) → ys ≡ map f xs
       same_at f [] [] e g = refl
@@ -105,15 +105,15 @@ module _ (ps : List Piece) (l : List Placed) (same : IsPermutation (placed_from 
 
 -- the order of pieces with places
 abbrev pub placed_cmp : Placed → Placed → Ordering
-placed_cmp x y = ordering_then (key_cmp x.key y.key) (ordering_then (piece_cmp x.piece y.piece) (nat_cmp x.place y.place))
+placed_cmp x y = ordering_then (key_cmp x.key y.key) (ordering_then (piece_cmp x.piece y.piece) (nat_cmp x.index y.index))
 
 by_chain : (x y : Placed) → x.key ≡ key_of x.piece.chain → y.key ≡ key_of y.piece.chain → is_lt (placed_cmp x y) ≡ false → is_lt (list_cmp x.piece.chain y.piece.chain) ≡ false
 by_chain x y k m e =
-    keys_first x.piece.chain y.piece.chain (ordering_then (piece_cmp x.piece y.piece) (nat_cmp x.place y.place))
+    keys_first x.piece.chain y.piece.chain (ordering_then (piece_cmp x.piece y.piece) (nat_cmp x.index y.index))
     (λ f.
     then_less (list_cmp x.piece.chain y.piece.chain) (ordering_then (bool_cmp x.piece.reversed y.piece.reversed) (bool_cmp x.piece.free y.piece.free))
-    (then_less (piece_cmp x.piece y.piece) (nat_cmp x.place y.place) f))
-    (subst (λ (w : Key × Key). is_lt (ordering_then (key_cmp w.0 w.1) (ordering_then (piece_cmp x.piece y.piece) (nat_cmp x.place y.place))) ≡ false) (λ i. (k i, m i)) e)
+    (then_less (piece_cmp x.piece y.piece) (nat_cmp x.index y.index) f))
+    (subst (λ (w : Key × Key). is_lt (ordering_then (key_cmp w.0 w.1) (ordering_then (piece_cmp x.piece y.piece) (nat_cmp x.index y.index))) ≡ false) (λ i. (k i, m i)) e)
 
 climbs : (x : Placed) (l : List Placed) → ((y : Placed) → Has y (x ∷ l) → y.key ≡ key_of y.piece.chain) → Rises placed_cmp x l → Climbs x.piece.chain (map stored_of (map piece_of l))
 climbs x [] k r = tt
@@ -131,7 +131,7 @@ placed_rise ps l same s = rise l (λ y h. key_there 0 ps y (back ps l same y h))
 number_of : (arcs : List (List Pos)) → rises arcs ≡ true → (n : ℕ) (p : Piece) → slice_get arcs n ≡ Some p.chain → n ≡ number_in arcs p
 number_of arcs r n p e =
     get_once list_cmp (less_self list_cmp (lists_total position_total) (slice_cmp-IsAntisymmetric position_same)) arcs n (number_in arcs p) p.chain (ascends_rising arcs r) e
-    (place_of_member p.chain arcs (get_has arcs n p.chain e))
+    (index_of_member p.chain arcs (get_has arcs n p.chain e))
 
 first_merged : (a : StoredArc) (l : List StoredArc) → slice_get (map positions_of (merged_from a l)) 0 ≡ Some a.positions
 first_merged a [] = refl
@@ -167,19 +167,19 @@ set_other (z ∷ l) (suc i) (suc j) x y f e = set_other l i j x y (λ q. f (ap s
 
 -- what is left to put, or is put
 abbrev pub LeftOrPut : List (List Pos) → List Placed → List ArcRef → Placed → Type 0
-LeftOrPut arcs rest refs y = Has y rest ⊎ (slice_get refs y.place ≡ Some (located arcs y.piece))
+LeftOrPut arcs rest refs y = Has y rest ⊎ (slice_get refs y.index ≡ Some (located arcs y.piece))
 
 -- one more is put
 pub ref_put : (l rest : List Placed) (refs : List ArcRef) (x : Placed) (used : ArcRef) → ArePlaced l → Has x l → length refs ≡ length l → used ≡ located (arcs_of l) x.piece →
-    ((y : Placed) → Has y l → LeftOrPut (arcs_of l) (x ∷ rest) refs y) → (y : Placed) → Has y l → LeftOrPut (arcs_of l) rest (slice_set refs x.place used) y
+    ((y : Placed) → Has y l → LeftOrPut (arcs_of l) (x ∷ rest) refs y) → (y : Placed) → Has y l → LeftOrPut (arcs_of l) rest (slice_set refs x.index used) y
 ref_put l rest refs x used are h n e was y k = elim (was y k) [
   | inl m ↦ elim m [
     | inl q ↦
-        let w : x.place < length refs = subst (λ m. x.place < m) (sym n) (are.within x h) in
-        inr (subst (λ z. slice_get (slice_set refs x.place used) z.place ≡ Some (located (arcs_of l) z.piece)) (sym q) (set_there refs x.place used w ∙ ap Some e))
+        let w : x.index < length refs = subst (λ m. x.index < m) (sym n) (are.within x h) in
+        inr (subst (λ z. slice_get (slice_set refs x.index used) z.index ≡ Some (located (arcs_of l) z.piece)) (sym q) (set_there refs x.index used w ∙ ap Some e))
     | inr z ↦ inl z
   ]
-  | inr g ↦ inr (set_other refs x.place y.place used (located (arcs_of l) y.piece) (λ q. e ∙ ap (located (arcs_of l)) (are.one x y h k q)) g)
+  | inr g ↦ inr (set_other refs x.index y.index used (located (arcs_of l) y.piece) (λ q. e ∙ ap (located (arcs_of l)) (are.one x y h k q)) g)
 ]
 
 -- kept arcs that rise, each as its own one piece, are the arcs of their table so

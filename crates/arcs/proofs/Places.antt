@@ -68,8 +68,8 @@ along_found l p q i r e f h =
     ap (option_map (λ c. cond r (reverse c) c)) (found_at q l i e) ∙ (λ j. Some (cond (h j) (reverse (f j)) (f j)))
 
 -- a member's place is found
-pub found_place : (q : List Pos) (l : List (List Pos)) → Has q l → Some (position_or_len (same_list q) l) ≡ position (same_list q) l
-found_place q l h = go (nat_lt (position_or_len (same_list q) l) (length l)) refl
+pub found_index : (q : List Pos) (l : List (List Pos)) → Has q l → Some (position_or_len (same_list q) l) ≡ position (same_list q) l
+found_index q l h = go (nat_lt (position_or_len (same_list q) l) (length l)) refl
   where
     within : (l : List (List Pos)) → Has q l → position_or_len (same_list q) l < length l
     within [] k = absurd k
@@ -85,8 +85,8 @@ found_place q l h = go (nat_lt (position_or_len (same_list q) l) (length l)) ref
     go false e = let m = ltb-false (position_or_len (same_list q) l) (length l) e in let k = within l h in absurd (omega arith)
 
 -- and stands there
-pub place_of_member : (q : List Pos) (l : List (List Pos)) → Has q l → slice_get l (position_or_len (same_list q) l) ≡ Some q
-place_of_member q l h = found_at q l (position_or_len (same_list q) l) (found_place q l h)
+pub index_of_member : (q : List Pos) (l : List (List Pos)) → Has q l → slice_get l (position_or_len (same_list q) l) ≡ Some q
+index_of_member q l h = found_at q l (position_or_len (same_list q) l) (found_index q l h)
 
 pub not_found : (q : List Pos) (l : List (List Pos)) → None ≡ position (same_list q) l → ¬ Has q l
-not_found q l e h = let k : None ≡ Some (position_or_len (same_list q) l) = e ∙ sym (found_place q l h) in absurd cc
+not_found q l e h = let k : None ≡ Some (position_or_len (same_list q) l) = e ∙ sym (found_index q l h) in absurd cc

@@ -12,13 +12,13 @@ beyond (x ∷ l) zero d h = absurd (omega (arith, h))
 beyond (x ∷ l) (suc i) d h = beyond l i d (omega (arith, h))
 
 -- lists that are as long as each other and have the same at each place are one
-same_places : {A : Type 0} (l m : List A) (d : A) → length l ≡ length m → ((k : ℕ) → k < length l → get_or l k d ≡ get_or m k d) → l ≡ m
-same_places [] [] d n h = refl
-same_places [] (y ∷ m) d n h = absurd (omega (arith, n))
-same_places (x ∷ l) [] d n h = absurd (omega (arith, n))
-same_places (x ∷ l) (y ∷ m) d n h =
+same_indexes : {A : Type 0} (l m : List A) (d : A) → length l ≡ length m → ((k : ℕ) → k < length l → get_or l k d ≡ get_or m k d) → l ≡ m
+same_indexes [] [] d n h = refl
+same_indexes [] (y ∷ m) d n h = absurd (omega (arith, n))
+same_indexes (x ∷ l) [] d n h = absurd (omega (arith, n))
+same_indexes (x ∷ l) (y ∷ m) d n h =
     let e : x ≡ y = h 0 (omega arith) in
-    let f : l ≡ m = same_places l m d (omega (arith, n)) (λ k i. h (suc k) (omega (arith, i))) in
+    let f : l ≡ m = same_indexes l m d (omega (arith, n)) (λ k i. h (suc k) (omega (arith, i))) in
     λ i. e i ∷ f i
 
 within_or : (i n : ℕ) → (i < n) ⊎ (n ≤ i)
@@ -58,7 +58,7 @@ set_mark v bs (a ∷ us) k d lt u =
 
 -- marks that were set are taken back
 pub marks_back : (n : ℕ) (us : List ArcRef) → marks_set false (marks_set true (replicate n false) us) us ≡ replicate n false
-marks_back n us = same_places (marks_set false (marks_set true (replicate n false) us) us) (replicate n false) false size each
+marks_back n us = same_indexes (marks_set false (marks_set true (replicate n false) us) us) (replicate n false) false size each
   where
     one : length (marks_set true (replicate n false) us) ≡ n
     one = marks_set_long true (replicate n false) us ∙ length-replicate n false
@@ -103,11 +103,11 @@ once_unmarked bs (a ∷ us) o h =
     ap (λ b. cond b false (each_unmarked (set bs a.arc true) us)) (h a.arc (inl refl))
     ∙ once_unmarked (set bs a.arc true) us o.1 (λ k u. get_or-set_other bs a.arc k true true (λ f. o.0 (subst (λ w. Uses w us) f u)) ∙ h k (inr u))
 
-pub told_once : (n : ℕ) (us : List ArcRef) → each_unmarked (replicate n false) us ≡ true → UsesOnce us
-told_once n us e = (unmarked_once (replicate n false) us e).0
+pub if_once : (n : ℕ) (us : List ArcRef) → each_unmarked (replicate n false) us ≡ true → UsesOnce us
+if_once n us e = (unmarked_once (replicate n false) us e).0
 
-pub once_told : (n : ℕ) (us : List ArcRef) → UsesOnce us → ((k : ℕ) → Uses k us → k < n) → each_unmarked (replicate n false) us ≡ true
-once_told n us o h = once_unmarked (replicate n false) us o (λ k u. get_or-replicate n k false true (h k u))
+pub once_means : (n : ℕ) (us : List ArcRef) → UsesOnce us → ((k : ℕ) → Uses k us → k < n) → each_unmarked (replicate n false) us ≡ true
+once_means n us o h = once_unmarked (replicate n false) us o (λ k u. get_or-replicate n k false true (h k u))
 
 -- a step of marking
 pub mark_step : (b c : Bool) (bs : List Bool) (a : ArcRef) (us : List ArcRef) (all : Bool) → cond b (each_unmarked bs (a ∷ us)) false ≡ all →

@@ -21,8 +21,8 @@ behind_comma f (x ∷ xs) = refl
 
 module _ {X : Type 0} (f : X → List ℕ) (xs : List X) where
   -- at the start all are left
-  pub texts_begun : (left : List X) (a : Seen) → left ≡ xs → TookUpTo a a (joined f xs) (behind f [] left)
-  texts_begun left a e = subst (TookUpTo a a (joined f xs)) (sym (ap (behind f []) e ∙ behind_nothing f xs)) (up_to_start a (joined f xs))
+  pub texts_started : (left : List X) (a : Seen) → left ≡ xs → TookUpTo a a (joined f xs) (behind f [] left)
+  texts_started left a e = subst (TookUpTo a a (joined f xs)) (sym (ap (behind f []) e ∙ behind_nothing f xs)) (up_to_start a (joined f xs))
 
   module _ (s : List ℕ) (left rest : List X) (x : X) (e : left ≡ x ∷ rest) where
     next_text : behind f s left ≡ (s ++ f x) ++ behind f (codes ",") rest

@@ -13,7 +13,7 @@ use Rattle.theory.specs.TopologyFunction.{least_from, lesser, rotations_from}
 use Rattle.grid.specs.declared.pos.Pos.{Pos}
 use Rattle.lines.specs.Turned.{position_cmp}
 use Rattle.arcs.specs.Keys.{key_cmp}
-use Rattle.arcs.specs.Turning.{key_if, used_key, least_place, least_place_from}
+use Rattle.arcs.specs.Turning.{key_if, used_key, least_index, least_index_from}
 use Rattle.arcs.specs.declared.key.Key.{Key}
 
 then_equal : (o : Ordering) → ordering_then o Equal ≡ o
@@ -45,59 +45,59 @@ module _ (arcs : List (List Pos)) where
   R a b = slice_cmp position_cmp (refinement.start_of arcs a) (refinement.start_of arcs b)
 
   -- the list begun at a place
-  abbrev begun : List ArcRef → ℕ → List ArcRef
-  begun l p = drop p l ++ take p l
+  abbrev started : List ArcRef → ℕ → List ArcRef
+  started l p = drop p l ++ take p l
 
   -- the least so far is begun at `place`, and begins with `best`
-  go : (whole s t : List ArcRef) (best : ArcRef) (place : ℕ) (d tail : List ArcRef) → whole ≡ s ++ t → d ≡ begun whole place → d ≡ best ∷ tail →
-      least_from R d (rotations_from s t) ≡ begun whole (least_place_from arcs place (used_key arcs best) (length s) t)
-  go whole s [] best place d tail e f g = f
-  go whole s (x ∷ t) best place d tail e f g =
+  go : (whole s t : List ArcRef) (best : ArcRef) (index : ℕ) (d tail : List ArcRef) → whole ≡ s ++ t → d ≡ started whole index → d ≡ best ∷ tail →
+      least_from R d (rotations_from s t) ≡ started whole (least_index_from arcs index (used_key arcs best) (length s) t)
+  go whole s [] best index d tail e f g = f
+  go whole s (x ∷ t) best index d tail e f g =
       let same : R d ((x ∷ t) ++ s) ≡ key_cmp (used_key arcs best) (used_key arcs x) =
       ap (λ w. R w ((x ∷ t) ++ s)) g ∙ keys_compare (along arcs best) (along arcs x) in
       let n : length (s ++ (x ∷ [])) ≡ length s + 1 = length-append s (x ∷ []) in
       ap (λ o. least_from R (lesser o d ((x ∷ t) ++ s)) (rotations_from (s ++ (x ∷ [])) t)) same
       ∙ step (λ b p k q i j. go whole (s ++ (x ∷ [])) t b p k q (e ∙ sym (append_assoc s (x ∷ []) t)) i j) (key_cmp (used_key arcs best) (used_key arcs x))
-      ∙ ap (λ k. begun whole (least_place_from arcs (cond (is_gt (key_cmp (used_key arcs best) (used_key arcs x))) (length s) place)
+      ∙ ap (λ k. started whole (least_index_from arcs (cond (is_gt (key_cmp (used_key arcs best) (used_key arcs x))) (length s) index)
       (cond (is_gt (key_cmp (used_key arcs best) (used_key arcs x))) (used_key arcs x) (used_key arcs best)) k t)) n
     where
-      seam : (x ∷ t) ++ s ≡ begun whole (length s)
-      seam = (λ i. sym (drop-append_seam s (x ∷ t)) i ++ sym (take-append_seam s (x ∷ t)) i) ∙ ap (λ w. begun w (length s)) (sym e)
+      seam : (x ∷ t) ++ s ≡ started whole (length s)
+      seam = (λ i. sym (drop-append_seam s (x ∷ t)) i ++ sym (take-append_seam s (x ∷ t)) i) ∙ ap (λ w. started w (length s)) (sym e)
 
-      step : ((b : ArcRef) (p : ℕ) (k q : List ArcRef) → k ≡ begun whole p → k ≡ b ∷ q →
-          least_from R k (rotations_from (s ++ (x ∷ [])) t) ≡ begun whole (least_place_from arcs p (used_key arcs b) (length (s ++ (x ∷ []))) t)) →
+      step : ((b : ArcRef) (p : ℕ) (k q : List ArcRef) → k ≡ started whole p → k ≡ b ∷ q →
+          least_from R k (rotations_from (s ++ (x ∷ [])) t) ≡ started whole (least_index_from arcs p (used_key arcs b) (length (s ++ (x ∷ []))) t)) →
           (o : Ordering) → least_from R (lesser o d ((x ∷ t) ++ s)) (rotations_from (s ++ (x ∷ [])) t)
-          ≡ begun whole (least_place_from arcs (cond (is_gt o) (length s) place) (cond (is_gt o) (used_key arcs x) (used_key arcs best)) (length (s ++ (x ∷ []))) t)
-      step more Less = more best place d tail f g
-      step more Equal = more best place d tail f g
+          ≡ started whole (least_index_from arcs (cond (is_gt o) (length s) index) (cond (is_gt o) (used_key arcs x) (used_key arcs best)) (length (s ++ (x ∷ []))) t)
+      step more Less = more best index d tail f g
+      step more Equal = more best index d tail f g
       step more Greater = more x (length s) ((x ∷ t) ++ s) (t ++ s) seam refl
 
   -- the list begun at the place of its least start is the least of its rotations
-  pub turned_at : (l : List ArcRef) → turned_used position_cmp arcs l ≡ begun l (least_place arcs l)
+  pub turned_at : (l : List ArcRef) → turned_used position_cmp arcs l ≡ started l (least_index arcs l)
   turned_at [] = refl
   turned_at (x ∷ l) =
-      go (x ∷ l) (x ∷ []) l x 0 ((x ∷ l) ++ []) (l ++ []) refl (refl_begun (x ∷ l)) refl
+      go (x ∷ l) (x ∷ []) l x 0 ((x ∷ l) ++ []) (l ++ []) refl (refl_started (x ∷ l)) refl
     where
-      refl_begun : (k : List ArcRef) → k ++ [] ≡ drop 0 k ++ take 0 k
-      refl_begun k = refl
+      refl_started : (k : List ArcRef) → k ++ [] ≡ drop 0 k ++ take 0 k
+      refl_started k = refl
 
   -- the place is within the list
-  within_from : (t : List ArcRef) (place : ℕ) (least : Key) (i : ℕ) → place ≤ i + length t → least_place_from arcs place least i t ≤ i + length t
-  within_from [] place least i h = h
-  within_from (x ∷ t) place least i h =
-      let k = within_from t (cond (is_gt (key_cmp least (used_key arcs x))) i place) (cond (is_gt (key_cmp least (used_key arcs x))) (used_key arcs x) least) (i + 1)
+  within_from : (t : List ArcRef) (index : ℕ) (least : Key) (i : ℕ) → index ≤ i + length t → least_index_from arcs index least i t ≤ i + length t
+  within_from [] index least i h = h
+  within_from (x ∷ t) index least i h =
+      let k = within_from t (cond (is_gt (key_cmp least (used_key arcs x))) i index) (cond (is_gt (key_cmp least (used_key arcs x))) (used_key arcs x) least) (i + 1)
       (by_case (is_gt (key_cmp least (used_key arcs x)))) in
       omega (arith, k)
     where
-      by_case : (b : Bool) → cond b i place ≤ (i + 1) + length t
+      by_case : (b : Bool) → cond b i index ≤ (i + 1) + length t
       by_case true = omega arith
       by_case false = omega (arith, h)
 
-  pub place_within : (l : List ArcRef) → least_place arcs l ≤ length l
-  place_within [] = omega arith
-  place_within (x ∷ l) = let k = within_from l 0 (used_key arcs x) 1 (omega arith) in omega (arith, k)
+  pub index_within : (l : List ArcRef) → least_index arcs l ≤ length l
+  index_within [] = omega arith
+  index_within (x ∷ l) = let k = within_from l 0 (used_key arcs x) 1 (omega arith) in omega (arith, k)
 
 -- what the code turns
-pub turned_by_code : (arcs : List (List Pos)) (l r new : List ArcRef) (place : ℕ) → place ≡ least_place arcs l → new ≡ drop place l ++ take place l → l ≡ r →
+pub turned_by_code : (arcs : List (List Pos)) (l r new : List ArcRef) (index : ℕ) → index ≡ least_index arcs l → new ≡ drop index l ++ take index l → l ≡ r →
     new ≡ turned_used position_cmp arcs r
-turned_by_code arcs l r new place p e f = e ∙ ap (λ w. drop w l ++ take w l) p ∙ sym (turned_at arcs l) ∙ ap (turned_used position_cmp arcs) f
+turned_by_code arcs l r new index p e f = e ∙ ap (λ w. drop w l ++ take w l) p ∙ sym (turned_at arcs l) ∙ ap (turned_used position_cmp arcs) f

@@ -18,7 +18,7 @@ piece_of x = x.piece
 -- pieces with their places, where the first has place n
 abbrev pub placed_from : ℕ → List Piece → List Placed
 placed_from n [] = []
-placed_from n (p ∷ ps) = record { key = key_of p.chain; piece = p; place = n } ∷ placed_from (n + 1) ps
+placed_from n (p ∷ ps) = record { key = key_of p.chain; piece = p; index = n } ∷ placed_from (n + 1) ps
 
 -- the arcs of pieces, of which those with one chain are together
 abbrev pub arcs_of : List Placed → List (List Pos)
@@ -28,12 +28,12 @@ arcs_of l = map positions_of (merged (map stored_of (map piece_of l)))
 -- than how many pieces there are
 pub record ArePlaced (l : List Placed) : Type 0 where
   pub keys : (x : Placed) → Has x l → x.key ≡ key_of x.piece.chain
-  pub one : (x y : Placed) → Has x l → Has y l → x.place ≡ y.place → x.piece ≡ y.piece
-  pub within : (x : Placed) → Has x l → x.place < length l
+  pub one : (x y : Placed) → Has x l → Has y l → x.index ≡ y.index → x.piece ≡ y.piece
+  pub within : (x : Placed) → Has x l → x.index < length l
 
 -- at the place of each piece is the used arc that it is
 abbrev pub AreRefsOf : List (List Pos) → List Placed → List ArcRef → Type 0
-AreRefsOf arcs l refs = (x : Placed) → Has x l → slice_get refs x.place ≡ Some (located arcs x.piece)
+AreRefsOf arcs l refs = (x : Placed) → Has x l → slice_get refs x.index ≡ Some (located arcs x.piece)
 
 -- a kept arc as its own one piece
 abbrev pub own_piece : StoredArc → Piece

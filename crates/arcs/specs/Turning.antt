@@ -16,12 +16,12 @@ abbrev pub used_key : List (List Pos) → ArcRef → Key
 used_key arcs a = key_if (along arcs a)
 
 -- the place of the first used arc that starts least, where the list goes on at place i
-abbrev pub least_place_from : List (List Pos) → ℕ → Key → ℕ → List ArcRef → ℕ
-least_place_from arcs place least i [] = place
-least_place_from arcs place least i (a ∷ l) =
-    least_place_from arcs (cond (is_gt (key_cmp least (used_key arcs a))) i place) (cond (is_gt (key_cmp least (used_key arcs a))) (used_key arcs a) least) (i + 1) l
+abbrev pub least_index_from : List (List Pos) → ℕ → Key → ℕ → List ArcRef → ℕ
+least_index_from arcs index least i [] = index
+least_index_from arcs index least i (a ∷ l) =
+    least_index_from arcs (cond (is_gt (key_cmp least (used_key arcs a))) i index) (cond (is_gt (key_cmp least (used_key arcs a))) (used_key arcs a) least) (i + 1) l
 
 -- the place of the first used arc that starts least
-abbrev pub least_place : List (List Pos) → List ArcRef → ℕ
-least_place arcs [] = 0
-least_place arcs (a ∷ l) = least_place_from arcs 0 (used_key arcs a) 1 l
+abbrev pub least_index : List (List Pos) → List ArcRef → ℕ
+least_index arcs [] = 0
+least_index arcs (a ∷ l) = least_index_from arcs 0 (used_key arcs a) 1 l

@@ -16,7 +16,7 @@ use std::alloc::{AllocError, Global};
 pub(crate) struct Placed {
     key: Key,
     piece: Piece,
-    place: usize,
+    index: usize,
 }
 
 /// Pieces with their places.
@@ -26,8 +26,8 @@ pub(crate) fn with_places(alloc: Global, pieces: Vec<Piece>) -> Result<Vec<Place
     let mut all = Vec::with_capacity(alloc, pieces.len())?;
     for piece in pieces {
         let key = Key::of(piece.chain());
-        let place = all.len();
-        all.push(Placed { key, piece, place })?;
+        let index = all.len();
+        all.push(Placed { key, piece, index })?;
     }
     Ok(all)
 }
@@ -50,12 +50,12 @@ fn add_arcs(
     let mut last = None;
     let mut last_key = None;
     for placed in pieces {
-        let Placed { key, piece, place } = placed;
+        let Placed { key, piece, index } = placed;
         let reversed = piece.reversed();
         let may_be_same = last_key == Some(key);
         last = Some(arc_behind(arcs, last, StoredArc::of(piece), may_be_same)?);
         last_key = Some(key);
-        refs[place] = ArcRef {
+        refs[index] = ArcRef {
             arc: arcs.len(),
             reversed,
         };

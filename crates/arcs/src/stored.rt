@@ -93,10 +93,10 @@ impl ArcList {
         self.arcs.values().as_slice()
     }
 
-    pub(crate) fn get(&self, place: usize) -> Option<&StoredArc>
-        ensures { option_map (λ a. a.now) result ≡ slice_get self.now place }
+    pub(crate) fn get(&self, index: usize) -> Option<&StoredArc>
+        ensures { option_map (λ a. a.now) result ≡ slice_get self.now index }
     {
-        self.as_slice().get(place)
+        self.as_slice().get(index)
     }
 
     pub(crate) fn len(&self) -> usize

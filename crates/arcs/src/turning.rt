@@ -1,6 +1,6 @@
 //! Turning the list of a ring to begin at the used arc that starts least.
 ghost use Rattle.arcs.specs.Keys.{key_of};
-ghost use Rattle.arcs.specs.Turning.{used_key, least_place};
+ghost use Rattle.arcs.specs.Turning.{used_key, least_index};
 ghost use Rattle.lines.specs.Turned.{position_cmp};
 ghost use Rattle.std.specs.Prelude.{◌≡◌, Some, reverse};
 ghost use Rattle.theory.specs.ArcNumbers.{along};
@@ -46,8 +46,8 @@ fn key_along(arcs: &ArcTable, used: &ArcRef) -> Key
 }
 
 /// The place of the first used arc that starts least.
-fn place_of_least(arcs: &ArcTable, used: &[ArcRef]) -> usize
-    ensures { result ≡ least_place arcs.now.arcs used.now }
+fn index_of_least(arcs: &ArcTable, used: &[ArcRef]) -> usize
+    ensures { result ≡ least_index arcs.now.arcs used.now }
 {
     used.iter()
         .position_min_by_key(|arc| key_along(arcs, arc))
@@ -59,6 +59,6 @@ fn place_of_least(arcs: &ArcTable, used: &[ArcRef]) -> usize
 pub fn turn_ring(arcs: &ArcTable, used: &mut [ArcRef])
     ensures { used.new ≡ turned_used position_cmp arcs.now.arcs used.old }
 {
-    let place = place_of_least(arcs, used);
-    used.rotate_left(place);
+    let index = index_of_least(arcs, used);
+    used.rotate_left(index);
 }

@@ -9,7 +9,7 @@ use std::alloc::Global;
 use std::collections::BTreeSet;
 use std::test::Fail;
 use worked_maps::{
-    Drawn, Of, Places, TRIANGLE, boxed, closed_ring, map_of, open_line, positions, stand_at,
+    Drawn, Of, Places, TRIANGLE, boxed, closed_ring, map_of, open_line, positions, are_at,
 };
 
 /// A line or a ring of a map.
@@ -49,7 +49,7 @@ fn pieces(alloc: Global, way: &Way) -> Result<Vec<Piece>, Fail> {
 type Part = (Places, bool, bool);
 
 fn is_part(piece: &Piece, part: &Part) -> bool {
-    stand_at(piece.chain(), part.0) && piece.reversed() == part.1 && piece.is_free() == part.2
+    are_at(piece.chain(), part.0) && piece.reversed() == part.1 && piece.is_free() == part.2
 }
 
 fn are_parts(pieces: &[Piece], parts: &[Part]) -> bool {

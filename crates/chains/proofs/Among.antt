@@ -30,9 +30,9 @@ has_among (k ∷ keys) v (inr h) = go (position_eq v k) (has_among keys v h)
     go false e = e
 
 -- what a look-up tells
-pub told_among : (keys : List Pos) (v : Pos) (b : Bool) → Tells b (Has v keys) → b ≡ among keys v
-told_among keys v true t = sym (has_among keys v (t.yes refl))
-told_among keys v false t = go (among keys v) refl
+pub if_among : (keys : List Pos) (v : Pos) (b : Bool) → Tells b (Has v keys) → b ≡ among keys v
+if_among keys v true t = sym (has_among keys v (t.yes refl))
+if_among keys v false t = go (among keys v) refl
   where
     go : (b : Bool) → among keys v ≡ b → false ≡ b
     go true e = absurd (t.no refl (among_has keys v e))

@@ -28,9 +28,9 @@ mapped f (y ∷ l) zero d x e = let h : y ≡ x = cc in ap f h
 mapped f (y ∷ l) (suc i) d x e = mapped f l i d x e
 
 -- of an arc that is told not to lie near, no vertex may be one of both tables
-pub told_apart : (s : VertexFilter) (arcs : List (List Pos)) (near : List Bool) (i : ℕ) (c : List Pos) (b : Bool) →
+pub if_apart : (s : VertexFilter) (arcs : List (List Pos)) (near : List Bool) (i : ℕ) (c : List Pos) (b : Bool) →
     near ≡ map (list_any (within s.extent)) arcs → b ≡ get_or near i true → slice_get arcs i ≡ Some c → b ≡ false → list_any (may_hold s) c ≡ false
-told_apart s arcs near i c b e t h f =
+if_apart s arcs near i c b e t h f =
     none_any (may_hold s) c (λ v k. ap (λ a. a && bits.may_hold s.bits v) (none_met (within s.extent) c apart v k))
   where
     apart : list_any (within s.extent) c ≡ false

@@ -13,13 +13,13 @@ use Rattle.lines.proofs.Positions.{position_most}
 use Rattle.arcs.specs.Among.{among}
 use Rattle.chains.specs.ArcPieces.{loop_pieces}
 use Rattle.arcs.specs.Arcs.{Arcs}
-use Rattle.chains.specs.Pieces.{begun_ring, cut_inside, ring_pieces}
+use Rattle.chains.specs.Pieces.{started_ring, cut_inside, ring_pieces}
 use Rattle.arcs.specs.Pieces.{piece_along}
-use Rattle.chains.specs.Starts.{start_place}
+use Rattle.chains.specs.Starts.{start_index}
 use Rattle.arcs.specs.Table.{is_loop, IsTableOf}
 use Rattle.chains.proofs.LoopStops.{opened_parted, starts_at}
 use Rattle.chains.proofs.SharedVertices.{front_has}
-use Rattle.chains.proofs.TablesAsMap.{told, free_loop}
+use Rattle.chains.proofs.TablesAsMap.{meant, free_loop}
 
 -- where the first of the ring is the least it stands there alone
 nothing_before : (x : Pos) (l a : List Pos) (v : Pos) (b : List Pos) → x ∷ l ≡ a ++ (v ∷ b) → v ≡ x → ¬ Has x l → (a ≡ []) × (l ≡ b)
@@ -29,12 +29,12 @@ nothing_before x l (z ∷ a) v b e f n =
     absurd (n (subst (Has x) (sym h) (Has-append_right x a (v ∷ b) (inl (sym f)))))
 
 -- a ring on which no stop lies, and of which the first vertex is the least, begins with that one
-begun_first : (stop : Pos → Bool) (x : Pos) (l : List Pos) → list_any stop (x ∷ l) ≡ false → ¬ Has x l → ((v : Pos) → Has v (x ∷ l) → AtMost position_cmp x v) →
-    begun_ring stop (x ∷ l) ≡ closed (x ∷ l)
-begun_first stop x l e n least =
-    let i = start_place stop (x ∷ l) in
+started_first : (stop : Pos → Bool) (x : Pos) (l : List Pos) → list_any stop (x ∷ l) ≡ false → ¬ Has x l → ((v : Pos) → Has v (x ∷ l) → AtMost position_cmp x v) →
+    started_ring stop (x ∷ l) ≡ closed (x ∷ l)
+started_first stop x l e n least =
+    let i = start_index stop (x ∷ l) in
     let s = starts_at stop x l in
-    let k : stop s.vertex ≡ false = s.told ∙ e in
+    let k : stop s.vertex ≡ false = s.meant ∙ e in
     let there : Has s.vertex (x ∷ l) = subst (Has s.vertex) (sym s.parted) (Has-append_right s.vertex s.before (s.vertex ∷ s.behind) (inl refl)) in
     let same : s.vertex ≡ x = position_most s.vertex x (s.alone k x (inl refl)) (least s.vertex there) in
     let t = nothing_before x l s.before s.vertex s.behind s.parted same n in
@@ -59,11 +59,11 @@ free_loop_pieces g js (x ∷ (y ∷ r)) k n f = go (list_any stop ring) refl
     least = elim k.ends [ inl e ↦ absurd (n x (inl refl) e.0) | inr e ↦ e.2 ]
 
     go : (b : Bool) → list_any stop ring ≡ b →
-        map (piece_along (not b)) (cond b (cut_inside stop (begun_ring stop ring)) ((x ∷ (y ∷ r)) ∷ []))
-        ≡ map (piece_along (not b)) (cond b (cut_inside stop (begun_ring stop ring)) (begun_ring stop ring ∷ []))
+        map (piece_along (not b)) (cond b (cut_inside stop (started_ring stop ring)) ((x ∷ (y ∷ r)) ∷ []))
+        ≡ map (piece_along (not b)) (cond b (cut_inside stop (started_ring stop ring)) (started_ring stop ring ∷ []))
     go true e = refl
-    go false e = ap (λ w. piece_along true w ∷ []) (f ∙ sym (begun_first stop x (front_of y r) e k.front_simple.0 (λ v h. least v (front_has v x (y ∷ r) h))))
+    go false e = ap (λ w. piece_along true w ∷ []) (f ∙ sym (started_first stop x (front_of y r) e k.front_simple.0 (λ v h. least v (front_has v x (y ∷ r) h))))
 
 pub loop_as_ring : (g : Geometry Pos) → IsSound g → (t : Arcs) → IsTableOf g t → (js c : List Pos) → Has c t.arcs → is_loop t.loops c ≡ true →
     loop_pieces (among js) c ≡ ring_pieces js (unclosed c)
-loop_as_ring g sg t table js c h e = free_loop_pieces g js c (table.arcs.arcs_only c h).chain ((told g sg t table c h).yes e) (free_loop g sg t table c h e).0
+loop_as_ring g sg t table js c h e = free_loop_pieces g js c (table.arcs.arcs_only c h).chain ((meant g sg t table c h).yes e) (free_loop g sg t table c h e).0

@@ -19,7 +19,7 @@ use Rattle.chains.specs.Index.{IsIndexOf}
 use Rattle.chains.specs.OfArcs.{arc_pieces, ArePiecesUnder}
 use Rattle.arcs.specs.Among.{among, Tells}
 use Rattle.arcs.specs.Pieces.{used, ArePieces}
-use Rattle.chains.specs.Pieces.{begun_ring, cut_inside, line_pieces, parts_round, ring_pieces}
+use Rattle.chains.specs.Pieces.{started_ring, cut_inside, line_pieces, parts_round, ring_pieces}
 use Rattle.arcs.specs.Table.{is_loop, free_at, IsTableOf}
 use Rattle.arcs.specs.declared.piece.Piece.{Piece}
 use Rattle.chains.proofs.Cuts.{line_is_cut, ring_is_cut}
@@ -28,7 +28,7 @@ use Rattle.lines.proofs.Positions.{position_dec}
 use Rattle.chains.proofs.ArcsAtStops.{loop_as_ring}
 use Rattle.chains.proofs.Oriented.{used_parts}
 use Rattle.chains.proofs.TableOfMap.{line_good, ring_good}
-use Rattle.chains.proofs.TablesAsMap.{told, free_loop, index_alike}
+use Rattle.chains.proofs.TablesAsMap.{meant, free_loop, index_alike}
 
 -- what is of a map is of one that is alike
 module _ (a u : Geometry Pos) (alike : Alike a u) where
@@ -83,19 +83,19 @@ module _ (a u : Geometry Pos) (alike : Alike a u) where
         go true e =
             let f = free_loop g sg t table c h e in
             let r : List Pos = unclosed c in
-            let cs = parts_round (among js) r (begun_ring (among js) r) in
+            let cs = parts_round (among js) r (started_ring (among js) r) in
             subst (ArePiecesUnder g u c) (sym (loop_as_ring g sg t table js c h e)) (record {
               each = are_pieces_alike (ring_pieces js r) (ring_good a sa js index r (loops r f.1));
               along = inr (
                 r,
                 f.0,
-                (told g sg t table c h).yes e,
+                (meant g sg t table c h).yes e,
                 ring_pieces_alike r (map used (ring_pieces js r))
                     (ring_is_cut a sa js index r (loops r f.1) (map used (ring_pieces js r)) (used_parts (not (list_any (among js) r)) cs)),
               );
             })
         go false e =
-            let f = (told g sg t table c h).no e in
+            let f = (meant g sg t table c h).no e in
             record {
               each = are_pieces_alike (line_pieces js c) (line_good a sa js index c (opens c (h, f)));
               along = inl (

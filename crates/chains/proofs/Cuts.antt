@@ -7,8 +7,8 @@ use Rattle.theory.specs.Cutting.{cut_from}
 use Rattle.theory.specs.Lists.{EndOf, Has, front_of, last_of}
 use Rattle.arcs.specs.Among.{among}
 use Rattle.chains.specs.Index.{IsIndexOf}
-use Rattle.chains.specs.Starts.{start_place}
-use Rattle.chains.specs.Pieces.{begun_ring, cut_inside, cut_inside_from, goes_on, parts_round}
+use Rattle.chains.specs.Starts.{start_index}
+use Rattle.chains.specs.Pieces.{started_ring, cut_inside, cut_inside_from, goes_on, parts_round}
 use Rattle.lines.proofs.Positions.{position_dec}
 use Rattle.chains.proofs.Among.{among_has, has_among}
 use Rattle.theory.specs.LinesAndRings.{closed}
@@ -79,12 +79,12 @@ module _ (g : Geometry Pos) (sound : IsSound g) (keys : List Pos) (index : IsInd
   met r x h free true e = any_met (among keys) r x h e
   met r x h free false e = none_any (among keys) r (λ v k. no_stop v (free e v k))
 
-  pub ring_is_cut : (r : List Pos) → IsRingOf g r → (cs : List (List Pos)) → cs ≡ parts_round (among keys) r (begun_ring (among keys) r) → AreRingPiecesOf position_cmp g r cs
+  pub ring_is_cut : (r : List Pos) → IsRingOf g r → (cs : List (List Pos)) → cs ≡ parts_round (among keys) r (started_ring (among keys) r) → AreRingPiecesOf position_cmp g r cs
   ring_is_cut [] h cs e = let k : 3 ≤ 0 = (sound.rings [] h).long in absurd (omega arith)
   ring_is_cut (x ∷ []) h cs e = let k : 3 ≤ 1 = (sound.rings (x ∷ []) h).long in absurd (omega arith)
   ring_is_cut (x ∷ (y ∷ l)) h cs e =
       let t = turned_at (JunctionOf g) (among keys) stops passes x y l (sound.rings (x ∷ (y ∷ l)) h) in
-      let o = opened_parted (x ∷ (y ∷ l)) t.before t.first t.behind (start_place (among keys) (x ∷ (y ∷ l))) t.parted t.place in
+      let o = opened_parted (x ∷ (y ∷ l)) t.before t.first t.behind (start_index (among keys) (x ∷ (y ∷ l))) t.parted t.place in
       let there : Has t.first (x ∷ (y ∷ l)) = subst (Has t.first) (sym t.parted) (Has-append_right t.first t.before (t.first ∷ t.behind) (inl refl)) in
       let m = met (x ∷ (y ∷ l)) t.first there (λ f. (t.free f).0) (among keys t.first) refl in (
         t.first,

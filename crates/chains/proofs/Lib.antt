@@ -16,7 +16,7 @@ pub mod Parted
 pub mod TableOfMap
 pub mod WalkSteps
 pub mod Noting
-pub mod NotedPlaces
+pub mod RecordedIndexes
 pub mod Found
 pub mod AllChains
 pub mod Slices

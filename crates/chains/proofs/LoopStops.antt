@@ -13,10 +13,10 @@ use Rattle.lines.specs.Turned.{position_cmp}
 use Rattle.lines.proofs.Positions.{true_false}
 use Rattle.arcs.specs.Among.{among}
 use Rattle.chains.specs.ArcPieces.{least_stop, IsLeastStop}
-use Rattle.chains.specs.Pieces.{begins_free, begun_ring, cut_inside, cut_inside_from, goes_on, open_pieces, opened_at, parts_round, ring_pieces}
+use Rattle.chains.specs.Pieces.{begins_free, started_ring, cut_inside, cut_inside_from, goes_on, open_pieces, opened_at, parts_round, ring_pieces}
 use Rattle.arcs.specs.Pieces.{piece_along}
-use Rattle.chains.specs.Starts.{start_of, start_cmp, start_place}
-use Rattle.chains.proofs.Openings.{LeastAt, Opening, starts_list, head_or, place_least, opening, start_there}
+use Rattle.chains.specs.Starts.{start_of, start_cmp, start_index}
+use Rattle.chains.proofs.Openings.{LeastAt, Opening, starts_list, head_or, index_least, opening, start_there}
 use Rattle.chains.proofs.Sharing.{none_any}
 use Rattle.chains.proofs.Turned.{then_head, same_kind, no_other}
 
@@ -38,20 +38,20 @@ pub record StartsAt (stop : Pos → Bool) (r : List Pos) (i : ℕ) : Type 0 wher
   pub parted : r ≡ before ++ (vertex ∷ behind)
   pub place : i ≡ length before
   -- it is a stop exactly where one lies on the ring
-  pub told : stop vertex ≡ list_any stop r
+  pub meant : stop vertex ≡ list_any stop r
   -- and no stop is less
   pub least : (u : Pos) → Has u r → stop u ≡ true → AtMost position_cmp vertex u
   -- where none lies on the ring, no vertex is less
   pub alone : stop vertex ≡ false → (u : Pos) → Has u r → AtMost position_cmp vertex u
 
-pub starts_at : (stop : Pos → Bool) (x : Pos) (r : List Pos) → StartsAt stop (x ∷ r) (start_place stop (x ∷ r))
+pub starts_at : (stop : Pos → Bool) (x : Pos) (r : List Pos) → StartsAt stop (x ∷ r) (start_index stop (x ∷ r))
 starts_at stop x [] = record {
   vertex = x;
   before = [];
   behind = [];
   parted = refl;
   place = refl;
-  told = go (stop x);
+  meant = go (stop x);
   least = λ u h e. itself u h;
   alone = λ e. itself;
 }
@@ -69,7 +69,7 @@ starts_at stop x (y ∷ l) = record {
   behind = o.right;
   parted = o.parted;
   place = k.place ∙ sym o.place;
-  told = told (stop f) refl;
+  meant = meant (stop f) refl;
   least = λ u h e. least u h e (stop f) refl;
   alone = λ e u h. most u h (e ∙ sym (none e u h));
 }
@@ -77,8 +77,8 @@ starts_at stop x (y ∷ l) = record {
     r : List Pos
     r = x ∷ (y ∷ l)
 
-    k : LeastAt (starts_list stop x r) (start_place stop r)
-    k = place_least stop x y l
+    k : LeastAt (starts_list stop x r) (start_index stop r)
+    k = index_least stop x y l
 
     o : Opening stop x r k.before k.here
     o = opening stop x x (y ∷ l) k.before k.here k.behind k.parted
@@ -105,9 +105,9 @@ starts_at stop x (y ∷ l) = record {
         let t = there u h in
         no_other (stop f) (stop u) (ordering_then (position_cmp f u) (position_cmp next t.0)) e (below u t.0 t.1)
 
-    told : (b : Bool) → stop f ≡ b → stop f ≡ list_any stop r
-    told true e = e ∙ sym (any_met stop r f is_there e)
-    told false e = e ∙ sym (none_any stop r (none e))
+    meant : (b : Bool) → stop f ≡ b → stop f ≡ list_any stop r
+    meant true e = e ∙ sym (any_met stop r f is_there e)
+    meant false e = e ∙ sym (none_any stop r (none e))
 
     most : (u : Pos) → Has u r → stop f ≡ stop u → AtMost position_cmp f u
     most u h e =
@@ -128,16 +128,16 @@ at_start : (stop : Pos → Bool) (r : List Pos) (i : ℕ) (p : Pos) → StartsAt
 at_start stop r i p s e =
     let k : Some s.vertex ≡ Some p = sym (get_seam s.before s.vertex s.behind) ∙ (λ j. slice_get (sym s.parted j) (sym s.place j)) ∙ e in
     let same : s.vertex ≡ p = cc in
-    ap stop (sym same) ∙ s.told
+    ap stop (sym same) ∙ s.meant
 
 -- the place is within the ring
-pub place_within : (stop : Pos → Bool) (x : Pos) (r : List Pos) → start_place stop (x ∷ r) < length (x ∷ r)
-place_within stop x [] = omega arith
-place_within stop x (y ∷ r) =
-    let k = place_least stop x y r in
+pub index_within : (stop : Pos → Bool) (x : Pos) (r : List Pos) → start_index stop (x ∷ r) < length (x ∷ r)
+index_within stop x [] = omega arith
+index_within stop x (y ∷ r) =
+    let k = index_least stop x y r in
     let o = opening stop x x (y ∷ r) k.before k.here k.behind k.parted in
     let e : length (x ∷ (y ∷ r)) ≡ length (o.left ++ (o.vertex ∷ o.right)) = ap length o.parted in
-    let p : start_place stop (x ∷ (y ∷ r)) ≡ length o.left = k.place ∙ sym o.place in
+    let p : start_index stop (x ∷ (y ∷ r)) ≡ length o.left = k.place ∙ sym o.place in
     subst (λ n. n < length (x ∷ (y ∷ r))) (sym p) (subst (λ n. length o.left < n) (sym e) (shorter o.left o.vertex o.right))
   where
     shorter : (a : List Pos) (v : Pos) (b : List Pos) → length a < length (a ++ (v ∷ b))
@@ -145,16 +145,16 @@ place_within stop x (y ∷ r) =
     shorter (z ∷ a) v b = let h = shorter a v b in omega arith
 
 -- in the form of the code
-pub no_stop_found : (stop : Pos → Bool) (r : List Pos) (i : ℕ) (p : Pos) → i ≡ start_place stop r → slice_get r i ≡ Some p → stop p ≡ false → None ≡ least_stop stop r
+pub no_stop_found : (stop : Pos → Bool) (r : List Pos) (i : ℕ) (p : Pos) → i ≡ start_index stop r → slice_get r i ≡ Some p → stop p ≡ false → None ≡ least_stop stop r
 no_stop_found stop [] i p e g h = absurd cc
 no_stop_found stop (x ∷ r) i p e g h =
     let t : list_any stop (x ∷ r) ≡ false =
-    sym (at_start stop (x ∷ r) (start_place stop (x ∷ r)) p (starts_at stop x r) (ap (slice_get (x ∷ r)) (sym e) ∙ g)) ∙ h in
-    ap (λ b. cond b (Some (start_place stop (x ∷ r))) None) (sym t)
+    sym (at_start stop (x ∷ r) (start_index stop (x ∷ r)) p (starts_at stop x r) (ap (slice_get (x ∷ r)) (sym e) ∙ g)) ∙ h in
+    ap (λ b. cond b (Some (start_index stop (x ∷ r))) None) (sym t)
 
-pub none_found : (stop : Pos → Bool) (r : List Pos) (i : ℕ) → i ≡ start_place stop r → length r ≤ i → None ≡ least_stop stop r
+pub none_found : (stop : Pos → Bool) (r : List Pos) (i : ℕ) → i ≡ start_index stop r → length r ≤ i → None ≡ least_stop stop r
 none_found stop [] i e h = refl
-none_found stop (x ∷ r) i e h = let k = place_within stop x r in absurd (omega (arith, e))
+none_found stop (x ∷ r) i e h = let k = index_within stop x r in absurd (omega (arith, e))
 
 -- the ring begun at one of its places
 pub opened_parted : (r a : List Pos) (v : Pos) (b : List Pos) (i : ℕ) → r ≡ a ++ (v ∷ b) → i ≡ length a → opened_at i r ≡ v ∷ ((b ++ a) ++ (v ∷ []))
@@ -164,54 +164,54 @@ opened_parted r a v b i e g =
     λ j. (d j ++ t j) ++ take 1 (d j)
 
 -- the turned loop begins with the least stop
-pub turned_least : (stop : Pos → Bool) (r : List Pos) → list_any stop r ≡ true → (w : Pos) → Begins w (opened_at (start_place stop r) r) → IsLeastStop stop r w
+pub turned_least : (stop : Pos → Bool) (r : List Pos) → list_any stop r ≡ true → (w : Pos) → Begins w (opened_at (start_index stop r) r) → IsLeastStop stop r w
 turned_least stop [] e w h = absurd cc
 turned_least stop (x ∷ r) e w h =
     let s = starts_at stop x r in
-    let o = opened_parted (x ∷ r) s.before s.vertex s.behind (start_place stop (x ∷ r)) s.parted s.place in
+    let o = opened_parted (x ∷ r) s.before s.vertex s.behind (start_index stop (x ∷ r)) s.parted s.place in
     subst (IsLeastStop stop (x ∷ r)) (sym (subst (Begins w) o h))
     (record {
       there = subst (Has s.vertex) (sym s.parted) (Has-append_right s.vertex s.before (s.vertex ∷ s.behind) (inl refl));
-      stops = s.told ∙ e;
+      stops = s.meant ∙ e;
       least = s.least;
     })
 
 -- it begins and ends there, so it has two positions or more
-pub turned_long : (stop : Pos → Bool) (r : List Pos) → list_any stop r ≡ true → 2 ≤ length (opened_at (start_place stop r) r)
+pub turned_long : (stop : Pos → Bool) (r : List Pos) → list_any stop r ≡ true → 2 ≤ length (opened_at (start_index stop r) r)
 turned_long stop [] e = absurd cc
 turned_long stop (x ∷ r) e =
     let s = starts_at stop x r in
-    let o = opened_parted (x ∷ r) s.before s.vertex s.behind (start_place stop (x ∷ r)) s.parted s.place in
+    let o = opened_parted (x ∷ r) s.before s.vertex s.behind (start_index stop (x ∷ r)) s.parted s.place in
     subst (λ w. 2 ≤ length w) (sym o) (closed s.vertex (s.behind ++ s.before))
   where
     closed : (v : Pos) (m : List Pos) → 2 ≤ length (v ∷ (m ++ (v ∷ [])))
     closed v [] = omega arith
     closed v (y ∷ m) = let h = closed v m in omega arith
 
-pub none_to_cut : (junctions : List Pos) (r : List Pos) (i : ℕ) → i ≡ start_place (among junctions) r → length r ≤ i → piece_along true [] ∷ [] ≡ ring_pieces junctions r
+pub none_to_cut : (junctions : List Pos) (r : List Pos) (i : ℕ) → i ≡ start_index (among junctions) r → length r ≤ i → piece_along true [] ∷ [] ≡ ring_pieces junctions r
 none_to_cut junctions [] i e h = refl
-none_to_cut junctions (x ∷ r) i e h = let k = place_within (among junctions) x r in absurd (omega (arith, e))
+none_to_cut junctions (x ∷ r) i e h = let k = index_within (among junctions) x r in absurd (omega (arith, e))
 
 -- the pieces that the code finds, where the ring is cut and where it is not
-pub ring_met : (junctions : List Pos) (r : List Pos) (i : ℕ) (p : Pos) → i ≡ start_place (among junctions) r → slice_get r i ≡ Some p → among junctions p ≡ true →
+pub ring_met : (junctions : List Pos) (r : List Pos) (i : ℕ) (p : Pos) → i ≡ start_index (among junctions) r → slice_get r i ≡ Some p → among junctions p ≡ true →
     open_pieces (among junctions) (opened_at i r) ≡ ring_pieces junctions r
 ring_met junctions [] i p e g k = absurd cc
 ring_met junctions (x ∷ r) i p e g k =
     let stop = among junctions in
     let t : list_any stop (x ∷ r) ≡ true =
-    sym (at_start stop (x ∷ r) (start_place stop (x ∷ r)) p (starts_at stop x r) (ap (slice_get (x ∷ r)) (sym e) ∙ g)) ∙ k in
+    sym (at_start stop (x ∷ r) (start_index stop (x ∷ r)) p (starts_at stop x r) (ap (slice_get (x ∷ r)) (sym e) ∙ g)) ∙ k in
     ap (λ n. open_pieces stop (opened_at n (x ∷ r))) e
-    ∙ ap (λ b. map (piece_along (not b)) (cond b (cut_inside stop (begun_ring stop (x ∷ r))) (begun_ring stop (x ∷ r) ∷ []))) (sym t)
+    ∙ ap (λ b. map (piece_along (not b)) (cond b (cut_inside stop (started_ring stop (x ∷ r))) (started_ring stop (x ∷ r) ∷ []))) (sym t)
 
-pub ring_unmet : (junctions : List Pos) (r : List Pos) (i : ℕ) (p : Pos) → i ≡ start_place (among junctions) r → slice_get r i ≡ Some p → among junctions p ≡ false →
+pub ring_unmet : (junctions : List Pos) (r : List Pos) (i : ℕ) (p : Pos) → i ≡ start_index (among junctions) r → slice_get r i ≡ Some p → among junctions p ≡ false →
     piece_along true (opened_at i r) ∷ [] ≡ ring_pieces junctions r
 ring_unmet junctions [] i p e g k = absurd cc
 ring_unmet junctions (x ∷ r) i p e g k =
     let stop = among junctions in
     let t : list_any stop (x ∷ r) ≡ false =
-    sym (at_start stop (x ∷ r) (start_place stop (x ∷ r)) p (starts_at stop x r) (ap (slice_get (x ∷ r)) (sym e) ∙ g)) ∙ k in
+    sym (at_start stop (x ∷ r) (start_index stop (x ∷ r)) p (starts_at stop x r) (ap (slice_get (x ∷ r)) (sym e) ∙ g)) ∙ k in
     ap (λ n. piece_along true (opened_at n (x ∷ r)) ∷ []) e
-    ∙ ap (λ b. map (piece_along (not b)) (cond b (cut_inside stop (begun_ring stop (x ∷ r))) (begun_ring stop (x ∷ r) ∷ []))) (sym t)
+    ∙ ap (λ b. map (piece_along (not b)) (cond b (cut_inside stop (started_ring stop (x ∷ r))) (started_ring stop (x ∷ r) ∷ []))) (sym t)
 
 -- each part of a list that begins with a stop begins with a stop
 module _ (stop : Pos → Bool) where
@@ -221,31 +221,31 @@ module _ (stop : Pos → Bool) where
   parts_begin x m (p ∷ rest) e c h =
       go (goes_on rest && stop p) refl (λ k. parts_begin p [] rest k c) (parts_begin x (m ++ (p ∷ [])) rest e c) h
     where
-      told : (a b : Bool) → (a && b) ≡ true → b ≡ true
-      told true b f = f
-      told false b f = absurd cc
+      meant : (a b : Bool) → (a && b) ≡ true → b ≡ true
+      meant true b f = f
+      meant false b f = absurd cc
 
       go : (b : Bool) → (goes_on rest && stop p) ≡ b → (stop p ≡ true → Has c (cut_inside_from stop (p ∷ []) rest) → begins_free stop c ≡ false) →
           (Has c (cut_inside_from stop (x ∷ (m ++ (p ∷ []))) rest) → begins_free stop c ≡ false) →
           Has c (cond b ((x ∷ (m ++ (p ∷ []))) ∷ cut_inside_from stop (p ∷ []) rest) (cut_inside_from stop (x ∷ (m ++ (p ∷ []))) rest)) → begins_free stop c ≡ false
       go true f g k (inl q) = ap (begins_free stop) q ∙ ap not e
-      go true f g k (inr z) = g (told (goes_on rest) (stop p) f) z
+      go true f g k (inr z) = g (meant (goes_on rest) (stop p) f) z
       go false f g k z = k z
 
   pub list_begins : (x : Pos) (r : List Pos) → stop x ≡ true → (c : List Pos) → Has c (cut_inside stop (x ∷ r)) → begins_free stop c ≡ false
   list_begins x r e c h = parts_begin x [] r e c h
 
   -- each part of a ring begins with a stop, if one lies on the ring
-  pub ring_begins : (x : Pos) (r : List Pos) (c : List Pos) → Has c (parts_round stop (x ∷ r) (begun_ring stop (x ∷ r))) → begins_free stop c ≡ not (list_any stop (x ∷ r))
+  pub ring_begins : (x : Pos) (r : List Pos) (c : List Pos) → Has c (parts_round stop (x ∷ r) (started_ring stop (x ∷ r))) → begins_free stop c ≡ not (list_any stop (x ∷ r))
   ring_begins x r c h = go (list_any stop (x ∷ r)) refl h
     where
-      s : StartsAt stop (x ∷ r) (start_place stop (x ∷ r))
+      s : StartsAt stop (x ∷ r) (start_index stop (x ∷ r))
       s = starts_at stop x r
 
-      o : begun_ring stop (x ∷ r) ≡ s.vertex ∷ ((s.behind ++ s.before) ++ (s.vertex ∷ []))
-      o = opened_parted (x ∷ r) s.before s.vertex s.behind (start_place stop (x ∷ r)) s.parted s.place
+      o : started_ring stop (x ∷ r) ≡ s.vertex ∷ ((s.behind ++ s.before) ++ (s.vertex ∷ []))
+      o = opened_parted (x ∷ r) s.before s.vertex s.behind (start_index stop (x ∷ r)) s.parted s.place
 
-      go : (b : Bool) → list_any stop (x ∷ r) ≡ b → Has c (cond b (cut_inside stop (begun_ring stop (x ∷ r))) (begun_ring stop (x ∷ r) ∷ [])) → begins_free stop c ≡ not b
-      go true e k = list_begins s.vertex ((s.behind ++ s.before) ++ (s.vertex ∷ [])) (s.told ∙ e) c (subst (λ w. Has c (cut_inside stop w)) o k)
-      go false e (inl q) = ap (begins_free stop) (q ∙ o) ∙ ap not (s.told ∙ e)
+      go : (b : Bool) → list_any stop (x ∷ r) ≡ b → Has c (cond b (cut_inside stop (started_ring stop (x ∷ r))) (started_ring stop (x ∷ r) ∷ [])) → begins_free stop c ≡ not b
+      go true e k = list_begins s.vertex ((s.behind ++ s.before) ++ (s.vertex ∷ [])) (s.meant ∙ e) c (subst (λ w. Has c (cut_inside stop w)) o k)
+      go false e (inl q) = ap (begins_free stop) (q ∙ o) ∙ ap not (s.meant ∙ e)
       go false e (inr z) = absurd z

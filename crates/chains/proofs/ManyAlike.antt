@@ -264,8 +264,8 @@ module _ (before after : List Arcs) (t : Arcs) (each : EachIsTable (before ++ (t
 
 -- what the marks say
 module _ (tables : List Arcs) (each : EachIsTable tables) (marks : List Bool) (shared : MarkShared marks (arcs_of_all tables)) where
-  pub shared_kept : (noted : List Visit) → HaveSame noted (all_marked_visits marks (arcs_of_all tables)) → KeepsClashes noted (gathered piece_visits (arcs_of_all tables))
-  shared_kept noted same =
+  pub shared_kept : (recorded : List Visit) → HaveSame recorded (all_marked_visits marks (arcs_of_all tables)) → KeepsClashes recorded (gathered piece_visits (arcs_of_all tables))
+  shared_kept recorded same =
       let f = piece_meets shared.may in
       let ps = arcs_of_all tables in
       let is : all_marked_visits marks ps ≡ gathered (λ p. marked_visits (f p) p) ps = ap (λ w. all_marked_visits w ps) shared.marks_are ∙ marked_are f ps in
@@ -300,16 +300,16 @@ module _ (tables : List Arcs) (each : EachIsTable tables) (marks : List Bool) (s
 
 -- what an index over the arcs of tables has, made of ends and of visits that were noted
 module _ (maps : List (Geometry Pos)) (tables : List Arcs) (are : AreTablesOf maps tables) (ps : List Piece) (pieces : ps ≡ arcs_of_all tables)
-    (marks : List Bool) (shared : MarkShared marks ps) (js ends : List Pos) (noted : List Visit) (ends_are : ends ≡ gathered piece_ends ps)
-    (visits_are : HaveSame noted (all_marked_visits marks ps))
-    (made : (g : Geometry Pos) (all : List Visit) → KeepsClashes noted all → AreVisitsOf ends all g → IsIndexOf js g) where
+    (marks : List Bool) (shared : MarkShared marks ps) (js ends : List Pos) (recorded : List Visit) (ends_are : ends ≡ gathered piece_ends ps)
+    (visits_are : HaveSame recorded (all_marked_visits marks ps))
+    (made : (g : Geometry Pos) (all : List Visit) → KeepsClashes recorded all → AreVisitsOf ends all g → IsIndexOf js g) where
   marked : MarkShared marks (arcs_of_all tables)
   marked = subst (MarkShared marks) pieces shared
 
   pub index_of_all : IsIndexOf js (all_as_map tables)
   index_of_all =
       made (all_as_map tables) (gathered piece_visits (arcs_of_all tables))
-      (shared_kept tables (each_is maps tables are) marks marked noted (subst (λ w. HaveSame noted (all_marked_visits marks w)) pieces visits_are))
+      (shared_kept tables (each_is maps tables are) marks marked recorded (subst (λ w. HaveSame recorded (all_marked_visits marks w)) pieces visits_are))
       (subst (λ w. AreVisitsOf w (gathered piece_visits (arcs_of_all tables)) (all_as_map tables)) (sym (ends_are ∙ ap (gathered piece_ends) pieces)) (all_visits_are tables))
 
   pub all_stay_whole : UnmarkedStayWhole js ps marks

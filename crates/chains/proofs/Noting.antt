@@ -9,7 +9,7 @@ use Rattle.arcs.specs.Among.{among}
 use Rattle.theory.specs.Geometry.{AtMost}
 use Rattle.lines.proofs.Positions.{position_tied, tied_position, position_true, true_position, true_false}
 use Rattle.chains.specs.Joined.{AmongSegments, SegmentsOf, StopAt, MeetsTwo}
-use Rattle.chains.specs.Links.{joined, noted, noted_all}
+use Rattle.chains.specs.Links.{joined, recorded, recorded_all}
 use Rattle.theory.specs.Lists.{Has}
 use Rattle.grid.specs.declared.pos.Pos.{Pos}
 use Rattle.chains.specs.declared.segment.Segment.{Segment}
@@ -32,9 +32,9 @@ Means-joined (Some t) H n h = go (position_eq t.0 n) refl
     go false e = (inr h.0, inl refl, λ f p k. absurd (true_false (position_eq t.0 n) (true_position t.0 n f) e))
 
 module _ (keys : List Pos) (q : Pos) (free : ¬ StopAt keys q) where
-  Means-noted : (o : Option (Pos × Pos)) (H : Pos → Type 0) (at to : Pos) → Means o H →
-      Means (noted keys q o at to) (λ p. ((q ≡ at) × (p ≡ to)) ⊎ H p)
-  Means-noted o H at to h = stop (among keys at) refl
+  Means-recorded : (o : Option (Pos × Pos)) (H : Pos → Type 0) (at to : Pos) → Means o H →
+      Means (recorded keys q o at to) (λ p. ((q ≡ at) × (p ≡ to)) ⊎ H p)
+  Means-recorded o H at to h = stop (among keys at) refl
     where
       same : (b : Bool) → is_eq (position_cmp at q) ≡ b → Means (cond b (Some (joined o to)) o) (λ p. ((q ≡ at) × (p ≡ to)) ⊎ H p)
       same true e =
@@ -53,13 +53,13 @@ module _ (keys : List Pos) (q : Pos) (free : ¬ StopAt keys q) where
       stop false e = same (is_eq (position_cmp at q)) refl
 
   pub Means-all : (o : Option (Pos × Pos)) (H : Pos → Type 0) (ss : List Segment) → Means o H →
-      Means (noted_all keys q o ss) (λ p. AmongSegments q p ss ⊎ H p)
+      Means (recorded_all keys q o ss) (λ p. AmongSegments q p ss ⊎ H p)
   Means-all o H [] h = Means-iff o H (λ p. ⊥ ⊎ H p) (λ p k. inr k) (λ p k. elim k [ inl z ↦ absurd z | inr f ↦ f ]) h
   Means-all o H (s ∷ ss) h =
-      let one = noted keys q o s.ends.lesser s.ends.greater in
-      let first = Means-noted o H s.ends.lesser s.ends.greater h in
-      let second = Means-noted one (λ p. ((q ≡ s.ends.lesser) × (p ≡ s.ends.greater)) ⊎ H p) s.ends.greater s.ends.lesser first in
-      Means-iff (noted_all keys q o (s ∷ ss))
+      let one = recorded keys q o s.ends.lesser s.ends.greater in
+      let first = Means-recorded o H s.ends.lesser s.ends.greater h in
+      let second = Means-recorded one (λ p. ((q ≡ s.ends.lesser) × (p ≡ s.ends.greater)) ⊎ H p) s.ends.greater s.ends.lesser first in
+      Means-iff (recorded_all keys q o (s ∷ ss))
       (λ p. AmongSegments q p ss ⊎ (((q ≡ s.ends.greater) × (p ≡ s.ends.lesser)) ⊎ (((q ≡ s.ends.lesser) × (p ≡ s.ends.greater)) ⊎ H p)))
       (λ p. AmongSegments q p (s ∷ ss) ⊎ H p)
       (λ p k. elim k [
@@ -70,12 +70,12 @@ module _ (keys : List Pos) (q : Pos) (free : ¬ StopAt keys q) where
         | inr f ↦ inr (inr (inr f))
         | inl f ↦ elim f [ inr g ↦ inl g | inl g ↦ elim g [ inl i ↦ inr (inr (inl i)) | inr i ↦ inr (inl i) ] ]
       ])
-      (Means-all (noted keys q one s.ends.greater s.ends.lesser)
+      (Means-all (recorded keys q one s.ends.greater s.ends.lesser)
       (λ p. ((q ≡ s.ends.greater) × (p ≡ s.ends.lesser)) ⊎ (((q ≡ s.ends.lesser) × (p ≡ s.ends.greater)) ⊎ H p)) ss second)
 
 -- nothing is noted of a stop
 module _ (keys : List Pos) (q : Pos) (halt : StopAt keys q) where
-  stop_once : (o : Option (Pos × Pos)) (at to : Pos) → noted keys q o at to ≡ o
+  stop_once : (o : Option (Pos × Pos)) (at to : Pos) → recorded keys q o at to ≡ o
   stop_once o at to = go (among keys at) refl
     where
       same : (b : Bool) → is_eq (position_cmp at q) ≡ b → among keys at ≡ false → cond b (Some (joined o to)) o ≡ o
@@ -86,17 +86,17 @@ module _ (keys : List Pos) (q : Pos) (halt : StopAt keys q) where
       go true e = refl
       go false e = same (is_eq (position_cmp at q)) refl e
 
-  stop_all : (o : Option (Pos × Pos)) (ss : List Segment) → noted_all keys q o ss ≡ o
+  stop_all : (o : Option (Pos × Pos)) (ss : List Segment) → recorded_all keys q o ss ≡ o
   stop_all o [] = refl
   stop_all o (s ∷ ss) =
-      stop_all (noted keys q (noted keys q o s.ends.lesser s.ends.greater) s.ends.greater s.ends.lesser) ss
-      ∙ stop_once (noted keys q o s.ends.lesser s.ends.greater) s.ends.greater s.ends.lesser ∙ stop_once o s.ends.lesser s.ends.greater
+      stop_all (recorded keys q (recorded keys q o s.ends.lesser s.ends.greater) s.ends.greater s.ends.lesser) ss
+      ∙ stop_once (recorded keys q o s.ends.lesser s.ends.greater) s.ends.greater s.ends.lesser ∙ stop_once o s.ends.lesser s.ends.greater
 
 -- the step of the code
-pub noted_step : (keys : List Pos) (q at to : Pos) (f : Pos → Option (Pos × Pos)) (new o : Option (Pos × Pos)) (v : Pos × Pos) →
+pub recorded_step : (keys : List Pos) (q at to : Pos) (f : Pos → Option (Pos × Pos)) (new o : Option (Pos × Pos)) (v : Pos × Pos) →
     among keys at ≡ false → new ≡ cond (is_eq (position_cmp at q)) (Some v) (f q) → v ≡ joined o to → o ≡ f at →
-    new ≡ noted keys q (f q) at to
-noted_step keys q at to f new o v free e g h =
+    new ≡ recorded keys q (f q) at to
+recorded_step keys q at to f new o v free e g h =
     e ∙ go (is_eq (position_cmp at q)) refl ∙ ap (λ b. cond b (f q) (cond (is_eq (position_cmp at q)) (Some (joined (f q) to)) (f q))) (sym free)
   where
     go : (b : Bool) → is_eq (position_cmp at q) ≡ b → cond b (Some v) (f q) ≡ cond b (Some (joined (f q) to)) (f q)
@@ -108,7 +108,7 @@ none_some o t e f = cc
 
 -- what holds before the first walk
 pub joining_start : (segs : List Segment) (keys : List Pos) (m : Pos → Option (Pos × Pos)) → MeetsTwo segs keys →
-    ((q : Pos) → m q ≡ noted_all keys q None segs) → Joining (SegmentsOf segs) (StopAt keys) (AtMost position_cmp) m (λ d. Has d [])
+    ((q : Pos) → m q ≡ recorded_all keys q None segs) → Joining (SegmentsOf segs) (StopAt keys) (AtMost position_cmp) m (λ d. Has d [])
 joining_start segs keys m ok e = record {
   links = λ v a b f. (halt v a b f, (parts v a b f).0, (parts v a b f).1, (parts v a b f).2);
   chains = λ d h. absurd h;
@@ -134,10 +134,10 @@ joining_start segs keys m ok e = record {
           (λ g. t.2 (h.2 g t.0 (inl t.3) ∙ sym (h.2 g t.1 (inl t.4)))),
         )
 
-pub noted_some : (o : Option (Pos × Pos)) → true ≡ is_some o → (a : Pos) × (b : Pos) × (o ≡ Some (a, b))
-noted_some None e = absurd cc
-noted_some (Some t) e = (t.0, t.1, refl)
+pub recorded_some : (o : Option (Pos × Pos)) → true ≡ is_some o → (a : Pos) × (b : Pos) × (o ≡ Some (a, b))
+recorded_some None e = absurd cc
+recorded_some (Some t) e = (t.0, t.1, refl)
 
-pub noted_none : (o : Option (Pos × Pos)) → false ≡ is_some o → o ≡ None
-noted_none None e = refl
-noted_none (Some t) e = absurd cc
+pub recorded_none : (o : Option (Pos × Pos)) → false ≡ is_some o → o ≡ None
+recorded_none None e = refl
+recorded_none (Some t) e = absurd cc

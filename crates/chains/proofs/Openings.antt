@@ -8,7 +8,7 @@ use Rattle.std.proofs.lemmas.List.{length-append}
 use Rattle.grid.specs.declared.pos.Pos.{Pos}
 use Rattle.lines.specs.Turned.{position_cmp}
 use Rattle.theory.specs.Lists.{Has}
-use Rattle.chains.specs.Starts.{start_of, start_cmp, starts_from, least_from, start_place}
+use Rattle.chains.specs.Starts.{start_of, start_cmp, starts_from, least_from, start_index}
 use Rattle.chains.specs.declared.starts.RingStart.{RingStart}
 use Rattle.lines.proofs.SortedLists.{not_less}
 use Rattle.lines.specs.Positions.{position_total}
@@ -80,9 +80,9 @@ abbrev pub head_or : Pos → List Pos → Pos
 head_or x [] = x
 head_or x (y ∷ l) = y
 
-pub place_least : (stop : Pos → Bool) (x y : Pos) (r : List Pos) →
-    LeastAt (starts_list stop x (x ∷ (y ∷ r))) (start_place stop (x ∷ (y ∷ r)))
-place_least stop x y r =
+pub index_least : (stop : Pos → Bool) (x y : Pos) (r : List Pos) →
+    LeastAt (starts_list stop x (x ∷ (y ∷ r))) (start_index stop (x ∷ (y ∷ r)))
+index_least stop x y r =
     least_from_at (starts_from stop x y r) (start_of stop x y ∷ []) [] (start_of stop x y) [] 0 1 refl refl refl
     (λ s h. elim h [ inl p ↦ subst (λ w. is_gt (start_cmp (start_of stop x y) w) ≡ false) (sym p) (most_self (start_of stop x y)) | inr z ↦ absurd z ])
 

@@ -47,9 +47,9 @@ none_parted : (segs : List Segment) (stops : List Pos) → AreParted segs stops 
 none_parted segs stops = record { chains = λ d h. absurd h; within = λ u v h. h; every = λ u v h. inr h }
 
 -- in the form of the code
-pub alone_told : {E : Type 0} (segs list : List Segment) (stops : List Pos) (whole : List (List Pos)) (r : Result Arcs E) → list ≡ segs → whole ≡ [] →
+pub alone_means : {E : Type 0} (segs list : List Segment) (stops : List Pos) (whole : List (List Pos)) (r : Result Arcs E) → list ≡ segs → whole ≡ [] →
     MeetsTwo segs stops → IfOk r (λ t. (all : List Segment) → MeetsTwo all stops → AreParted all stops whole list → AreMaximal all stops t) →
     IfOk r (λ t. AreMaximal segs stops t)
-alone_told segs list stops whole (Ok t) e f two h =
+alone_means segs list stops whole (Ok t) e f two h =
     h segs two (subst (λ w. AreParted segs stops w list) (sym f) (subst (AreParted segs stops []) (sym e) (none_parted segs stops)))
-alone_told segs list stops whole (Err r) e f two h = tt
+alone_means segs list stops whole (Err r) e f two h = tt

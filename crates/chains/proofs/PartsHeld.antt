@@ -8,9 +8,9 @@ use Rattle.theory.proofs.ListsOfLists.{map_has}
 use Rattle.grid.specs.declared.pos.Pos.{Pos}
 use Rattle.arcs.specs.Among.{among}
 use Rattle.chains.specs.ArcPieces.{pieces_at, pieces_under}
-use Rattle.chains.specs.Pieces.{begun_ring, cut_inside, cut_inside_from, goes_on, opened_at, parts_round}
+use Rattle.chains.specs.Pieces.{started_ring, cut_inside, cut_inside_from, goes_on, opened_at, parts_round}
 use Rattle.arcs.specs.Pieces.{piece_along}
-use Rattle.chains.specs.Starts.{start_place}
+use Rattle.chains.specs.Starts.{start_index}
 use Rattle.arcs.specs.declared.piece.Piece.{Piece}
 use Rattle.chains.proofs.Oriented.{least_has}
 use Rattle.chains.proofs.SharedVertices.{front_has}
@@ -64,8 +64,8 @@ module _ (stop : Pos → Bool) where
   round_has : (v : Pos) (q c : List Pos) → Has c (parts_round stop (unclosed q) q) → Has v c → Has v q
   round_has v q c h k = go (list_any stop (unclosed q)) h
     where
-      go : (b : Bool) → Has c (cond b (cut_inside stop (begun_ring stop (unclosed q))) (q ∷ [])) → Has v q
-      go true m = unclosed_has v q (opened_has v (start_place stop (unclosed q)) (unclosed q) (list_has v (begun_ring stop (unclosed q)) c m k))
+      go : (b : Bool) → Has c (cond b (cut_inside stop (started_ring stop (unclosed q))) (q ∷ [])) → Has v q
+      go true m = unclosed_has v q (opened_has v (start_index stop (unclosed q)) (unclosed q) (list_has v (started_ring stop (unclosed q)) c m k))
       go false (inl e) = subst (Has v) e k
       go false (inr z) = absurd z
 

@@ -4,21 +4,21 @@ use Rattle.theory.specs.TopologyFunction.{keep}
 use Rattle.theory.proofs.Turning.{has_keep, keep_has}
 use Rattle.grid.specs.declared.pos.Pos.{Pos}
 use Rattle.lines.specs.PositionFilter.{may_hold}
-use Rattle.chains.specs.Repeats.{AreNoted, HoldsClashing}
+use Rattle.chains.specs.Repeats.{AreRecorded, HoldsClashing}
 use Rattle.chains.specs.VertexFilter.{KeepsClashes}
 use Rattle.chains.specs.declared.repeats.Repeats.{Repeats}
 use Rattle.chains.specs.declared.visits.Visit.{Visit}
 
 -- none is noted before two lists of visits
-pub none_noted : (r : Repeats) (first second : List Visit) → AreNoted r (first ++ second) (first ++ (second ++ []))
-none_noted r first second = subst (λ l. AreNoted r (first ++ second) (first ++ l)) (sym (append-nil second)) (record {
+pub none_recorded : (r : Repeats) (first second : List Visit) → AreRecorded r (first ++ second) (first ++ (second ++ []))
+none_recorded r first second = subst (λ l. AreRecorded r (first ++ second) (first ++ l)) (sym (append-nil second)) (record {
   met = λ v h. inl h;
   again = λ v w h k s d. inl (inl h);
 })
 
 -- behind the last
-pub all_noted : (r : Repeats) (all : List Visit) → AreNoted r all [] → HoldsClashing (may_hold r.again) all
-all_noted r all noted v w j k s d = elim (noted.again v w j k s d) [
+pub all_recorded : (r : Repeats) (all : List Visit) → AreRecorded r all [] → HoldsClashing (may_hold r.again) all
+all_recorded r all recorded v w j k s d = elim (recorded.again v w j k s d) [
   | inl (inl l) ↦ absurd l
   | inl (inr l) ↦ absurd l
   | inr a ↦ a

@@ -27,8 +27,8 @@ around_seen (a ∷ (h ∷ r)) n b l x y m k e f g i =
     ∙ (λ j. inner_from a h r ++ (visit_of b l (p j) ∷ (visit_of l (p j) (q j) ∷ [])))
 
 -- two more visits that are noted
-pub two_noted : (old inner around first second third : List Visit) (v w : Visit) → HaveSame first (old ++ inner) → HaveSame second (first ++ (v ∷ [])) →
+pub two_recorded : (old inner around first second third : List Visit) (v w : Visit) → HaveSame first (old ++ inner) → HaveSame second (first ++ (v ∷ [])) →
     HaveSame third (second ++ (w ∷ [])) → around ≡ inner ++ (v ∷ (w ∷ [])) → HaveSame third (old ++ around)
-two_noted old inner around first second third v w s t u e =
+two_recorded old inner around first second third v w s t u e =
     same_trans u (same_trans (same_before (w ∷ []) (same_trans t (same_before (v ∷ []) s)))
     (same_equal (append_assoc (old ++ inner) (v ∷ []) (w ∷ []) ∙ append_assoc old inner (v ∷ (w ∷ [])) ∙ ap (λ l. old ++ l) (sym e))))

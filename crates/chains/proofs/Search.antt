@@ -9,7 +9,7 @@ use Rattle.grid.specs.declared.pos.Pos.{Pos}
 use Rattle.lines.specs.Turned.{position_cmp}
 use Rattle.theory.specs.Lists.{Has}
 use Rattle.arcs.specs.Among.{Tells, among}
-use Rattle.chains.proofs.Among.{told_among}
+use Rattle.chains.proofs.Among.{if_among}
 use Rattle.lines.proofs.SortedLists.{Contains-from_has, has_from_contains}
 use Rattle.lines.specs.Positions.{position_total, position_same}
 use Rattle.arcs.proofs.Looking.{split_at}
@@ -41,4 +41,4 @@ found_by_code xs ys x r b q e w p s =
 -- the same for a list that contracts see as another
 pub looked_up : (js xs ys : List Pos) (x : Pos) (r : Result ℕ ℕ) (b : Bool) → xs ≡ js → ys ≡ xs → b ≡ is_ok r → IsSearchInRange r (length ys) →
     IsBinarySearchResult (λ y. position_cmp y x) ys r → IsSorted position_cmp xs → b ≡ among js x
-looked_up js xs ys x r b v q e w p s = told_among js x b (subst (λ zs. Tells b (Has x zs)) v (found_by_code xs ys x r b q e w p s))
+looked_up js xs ys x r b v q e w p s = if_among js x b (subst (λ zs. Tells b (Has x zs)) v (found_by_code xs ys x r b q e w p s))

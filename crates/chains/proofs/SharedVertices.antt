@@ -27,7 +27,7 @@ use Rattle.arcs.specs.Holding.{HoldAll}
 use Rattle.chains.specs.Index.{IsIndexOf, AreVisitsOf}
 use Rattle.chains.specs.OfArcs.{arc_pieces, arc_visits, tables_as_map}
 use Rattle.chains.specs.ArcPieces.{loop_pieces, pieces_at}
-use Rattle.chains.specs.Pieces.{begun_ring, cut_inside, cut_inside_from, open_pieces}
+use Rattle.chains.specs.Pieces.{started_ring, cut_inside, cut_inside_from, open_pieces}
 use Rattle.arcs.specs.Pieces.{is_backwards_less, piece_along}
 use Rattle.chains.specs.VertexFilter.{arc_meets, arc_shared, inside, may_hold, HoldCommon, HoldShared, KeepsClashes, StayWhole}
 use Rattle.arcs.specs.Placing.{whole}
@@ -39,7 +39,7 @@ use Rattle.chains.specs.declared.visits.Visit.{Visit}
 use Rattle.chains.proofs.Among.{among_has}
 use Rattle.chains.proofs.Gathered.{between_has, clash_seen, found_in}
 use Rattle.chains.proofs.Sharing.{none_any, none_met}
-use Rattle.chains.proofs.TablesAsMap.{free_loop, told, tables_alike, tables_are}
+use Rattle.chains.proofs.TablesAsMap.{free_loop, meant, tables_alike, tables_are}
 
 last_has : (x : Pos) (r : List Pos) → Has (last_of x r) (x ∷ r)
 last_has x [] = inl refl
@@ -112,7 +112,7 @@ inner m sm s ms c h w = go (is_loop s.loops c) refl
     go : (b : Bool) → is_loop s.loops c ≡ b → Has w (cond b (around_of (unclosed c)) (inner_of c)) → ¬ JunctionOf m w.vertex
     go true e k =
         let f = found_in w (around (unclosed c)) k in
-        (told m sm s ms c h).yes e w.vertex
+        (meant m sm s ms c h).yes e w.vertex
         (subst (Has w.vertex) (sym (free_loop m sm s ms c h e).0) (round_has f.before w.vertex f.next (unclosed c) f.there))
     go false e k = let f = found_in w c k in passed c (ms.arcs.arcs_only c h).chain f.before f.next f.there
 
@@ -198,7 +198,7 @@ module _ (m : Geometry Pos) (sm : IsSound m) (s : Arcs) (ms : IsTableOf m s) (a 
   loop_whole (x ∷ []) k e none = let z : 1 ≤ 0 = k.chain.long in absurd (omega arith)
   loop_whole (x ∷ (y ∷ [])) k e none = let p : x ≡ y = cc in let z : 3 ≤ 1 = k.chain.closed_long p in absurd (omega arith)
   loop_whole (x ∷ (y ∷ (z ∷ q))) k e none =
-      ap (λ b. map (piece_along (not b)) (cond b (cut_inside (among js) (begun_ring (among js) (x ∷ (y ∷ front_of z q)))) ((x ∷ (y ∷ (z ∷ q))) ∷ [])))
+      ap (λ b. map (piece_along (not b)) (cond b (cut_inside (among js) (started_ring (among js) (x ∷ (y ∷ front_of z q)))) ((x ∷ (y ∷ (z ∷ q))) ∷ [])))
       (none_any (among js) (x ∷ (y ∷ front_of z q)) (loop_none x y (front_of z q) none))
       ∙ ap (λ w. w ∷ []) (own_piece (x ∷ (y ∷ (z ∷ q))) k.forward true)
 

@@ -20,13 +20,13 @@ use Rattle.grid.specs.declared.pos.Pos.{Pos}
 use Rattle.lines.specs.Turned.{position_cmp, list_cmp}
 use Rattle.arcs.specs.Among.{among, Tells}
 use Rattle.chains.specs.Index.{IsIndexOf}
-use Rattle.chains.specs.Pieces.{begins_free, begun_ring, cut_inside, line_pieces, parts_round, ring_pieces}
+use Rattle.chains.specs.Pieces.{begins_free, started_ring, cut_inside, line_pieces, parts_round, ring_pieces}
 use Rattle.arcs.specs.Pieces.{chain_of, is_backwards_less, least_direction, piece_along, IsPieceOf, ArePieces}
 use Rattle.arcs.specs.Table.{same_list, located, ArePiecesOfMap}
 use Rattle.arcs.specs.declared.piece.Piece.{Piece}
 use Rattle.lines.specs.Positions.{position_total, position_same}
 use Rattle.lines.proofs.Positions.{position_dec}
-use Rattle.arcs.proofs.Places.{along_found, found_place}
+use Rattle.arcs.proofs.Places.{along_found, found_index}
 use Rattle.chains.proofs.LoopStops.{list_begins, ring_begins}
 use Rattle.chains.proofs.Oriented.{marked, used_along}
 use Rattle.chains.proofs.Cuts.{end_stops, line_is_cut, ring_is_cut, stops, passes}
@@ -82,7 +82,7 @@ module _ (g : Geometry Pos) (sound : IsSound g) (keys : List Pos) (index : IsInd
       (list_begins (among keys) x r (end_stops g sound keys index (x ∷ r) h x (inl refl)))
 
   abbrev ring_parts : List Pos → List (List Pos)
-  ring_parts r = parts_round (among keys) r (begun_ring (among keys) r)
+  ring_parts r = parts_round (among keys) r (started_ring (among keys) r)
 
   abbrev ring_free : List Pos → Bool
   ring_free r = not (list_any (among keys) r)
@@ -128,7 +128,7 @@ module _ (g : Geometry Pos) (sound : IsSound g) (keys : List Pos) (index : IsInd
     located_along : (arcs : List (List Pos)) (free : Bool) (c : List Pos) → Has (least_direction c) arcs → along arcs (located arcs (piece_along free c)) ≡ Some c
     located_along arcs free c h =
         along_found arcs (piece_along free c) (least_direction c) (position_or_len (same_list (least_direction c)) arcs) (is_backwards_less c)
-        (found_place (least_direction c) arcs h) refl refl ∙ ap Some (used_along free c)
+        (found_index (least_direction c) arcs h) refl refl ∙ ap Some (used_along free c)
 
     all_taken : (arcs : List (List Pos)) (free : Bool) (cs : List (List Pos)) → ((c : List Pos) → Has c cs → Has (least_direction c) arcs) →
         AreTaken arcs (map (located arcs) (map (piece_along free) cs)) cs

@@ -148,25 +148,25 @@ visits_of_tables s t ends visits e f = record {
 
 -- a table tells which of its arcs are free
 module _ (g : Geometry Pos) (sound : IsSound g) (t : Arcs) (table : IsTableOf g t) where
-  pub told : (c : List Pos) → Has c t.arcs → Tells (is_loop t.loops c) (Free (JunctionOf g) c)
-  told c h =
+  pub meant : (c : List Pos) → Has c t.arcs → Tells (is_loop t.loops c) (Free (JunctionOf g) c)
+  meant c h =
       let k = has_get t.arcs c h in
       subst (λ w. Tells (is_loop_if t.loops w) (Free (JunctionOf g) c)) k.1 (table.free k.0 c k.1)
 
   pub open_arc : (l : List Pos) → Has l (open_in t.loops t.arcs) → OpenArc g t.arcs l
-  open_arc l h = let k = open_has t.loops t.arcs l h in (k.0, (told l k.0).no k.1)
+  open_arc l h = let k = open_has t.loops t.arcs l h in (k.0, (meant l k.0).no k.1)
 
   pub arc_open : (l : List Pos) → OpenArc g t.arcs l → Has l (open_in t.loops t.arcs)
   arc_open l h = has_open t.loops t.arcs l h.0 (go (is_loop t.loops l) refl)
     where
       go : (b : Bool) → is_loop t.loops l ≡ b → b ≡ false
-      go true e = absurd (h.1 ((told l h.0).yes e))
+      go true e = absurd (h.1 ((meant l h.0).yes e))
       go false e = refl
 
   -- a free arc is the ring that it goes round, closed
   pub free_loop : (c : List Pos) → Has c t.arcs → is_loop t.loops c ≡ true → (c ≡ closed (unclosed c)) × LoopArc g t.arcs (unclosed c)
   free_loop c h e = elim (kind position_cmp position_total position_same position_dec g sound t.arcs table.arcs c h) [
-    | inl k ↦ absurd (k.1 ((told c h).yes e))
+    | inl k ↦ absurd (k.1 ((meant c h).yes e))
     | inr k ↦
         let p : unclosed c ≡ k.0 = ap unclosed k.1 ∙ unclosed_closed k.0 in
         (k.1 ∙ ap closed (sym p), subst (LoopArc g t.arcs) (sym p) k.2)
@@ -181,7 +181,7 @@ module _ (g : Geometry Pos) (sound : IsSound g) (t : Arcs) (table : IsTableOf g 
     where
       go : (b : Bool) → is_loop t.loops (closed r) ≡ b → b ≡ true
       go true e = refl
-      go false e = absurd ((told (closed r) h.0).no e h.1)
+      go false e = absurd ((meant (closed r) h.0).no e h.1)
 
 -- a map of two sound ones
 pub union_sound : (m n u : Geometry Pos) → IsSound m → IsSound n → IsUnionOf m n u → IsSound u

@@ -8,15 +8,15 @@ use Rattle.std.specs.Cmp.Lexicographic.{slice_cmp}
 use Rattle.grid.specs.declared.pos.Pos.{Pos}
 use Rattle.lines.specs.Turned.{position_cmp}
 use Rattle.theory.specs.Lists.{Has}
-use Rattle.chains.specs.Starts.{start_of, start_cmp, start_place}
+use Rattle.chains.specs.Starts.{start_of, start_cmp, start_index}
 use Rattle.lines.specs.Positions.{position_total, position_same}
 use Rattle.theory.specs.LinesAndRings.{IsRing, IsRotation}
 use Rattle.theory.specs.Geometry.{AtMost}
 use Rattle.theory.specs.Seam.{IsSeamOf, IsTurned}
 use Rattle.theory.proofs.Lists.{Has-append_right, Has-split, append_nil}
 use Rattle.theory.proofs.Rotations.{least_second}
-use Rattle.theory.proofs.Turning.{stop_told}
-use Rattle.chains.proofs.Openings.{LeastAt, Opening, starts_list, head_or, place_least, opening, start_there}
+use Rattle.theory.proofs.Turning.{stop_means}
+use Rattle.chains.proofs.Openings.{LeastAt, Opening, starts_list, head_or, index_least, opening, start_there}
 
 pub then_head : (r s : Ordering) → is_gt (ordering_then r s) ≡ false → is_gt r ≡ false
 then_head Less s e = refl
@@ -79,7 +79,7 @@ module _ (J : Pos → Type 0) (stop : Pos → Bool) (stops : (v : Pos) → stop 
     pub turned : IsTurned position_cmp J r first (behind ++ before)
     pub free : stop first ≡ false → ((v : Pos) → Has v r → ¬ J v) × ((v : Pos) → Has v r → AtMost position_cmp first v)
 
-  pub turned_at : (x y : Pos) (l : List Pos) → IsRing (x ∷ (y ∷ l)) → TurnedAt (x ∷ (y ∷ l)) (start_place stop (x ∷ (y ∷ l)))
+  pub turned_at : (x y : Pos) (l : List Pos) → IsRing (x ∷ (y ∷ l)) → TurnedAt (x ∷ (y ∷ l)) (start_index stop (x ∷ (y ∷ l)))
   turned_at x y l g = record {
     first = f;
     before = o.left;
@@ -93,8 +93,8 @@ module _ (J : Pos → Type 0) (stop : Pos → Bool) (stops : (v : Pos) → stop 
       r : List Pos
       r = x ∷ (y ∷ l)
 
-      k : LeastAt (starts_list stop x r) (start_place stop r)
-      k = place_least stop x y l
+      k : LeastAt (starts_list stop x r) (start_index stop r)
+      k = index_least stop x y l
 
       o : Opening stop x r k.before k.here
       o = opening stop x x (y ∷ l) k.before k.here k.behind k.parted
@@ -134,7 +134,7 @@ module _ (J : Pos → Type 0) (stop : Pos → Bool) (stops : (v : Pos) → stop 
       alone e = ((λ v h. passes v (none e v h)), (λ v h. most v h (e ∙ sym (none e v h))))
 
       seam : (b : Bool) → stop f ≡ b → IsSeamOf position_cmp J r f
-      seam true e = inl (record { there = is_there; has_it = stops f e; least = λ u h j. most u h (e ∙ sym (stop_told J stop passes u j)) })
+      seam true e = inl (record { there = is_there; has_it = stops f e; least = λ u h j. most u h (e ∙ sym (stop_means J stop passes u j)) })
       seam false e = inr ((alone e).0, record { there = is_there; has_it = tt; least = λ u h j. (alone e).1 u h })
 
       least : (m : List Pos) → IsRotation r (f ∷ m) → AtMost (slice_cmp position_cmp) (f ∷ (o.right ++ o.left)) (f ∷ m)

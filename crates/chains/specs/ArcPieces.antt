@@ -7,15 +7,15 @@ use Rattle.theory.specs.Refinement.{unclosed}
 use Rattle.theory.specs.Stitching.{Stitched}
 use Rattle.grid.specs.declared.pos.Pos.{Pos}
 use Rattle.lines.specs.Turned.{position_cmp}
-use Rattle.chains.specs.Pieces.{begun_ring, open_pieces, pieces_round}
+use Rattle.chains.specs.Pieces.{started_ring, open_pieces, pieces_round}
 use Rattle.arcs.specs.Pieces.{is_backwards_less, used}
-use Rattle.chains.specs.Starts.{start_place}
+use Rattle.chains.specs.Starts.{start_index}
 use Rattle.arcs.specs.declared.piece.Piece.{Piece}
 use Rattle.arcs.specs.Among.{among}
 
 -- the place of the ring's least stop, where one lies on it [topojson-server; own]
 abbrev pub least_stop : (Pos → Bool) → List Pos → Option ℕ
-least_stop stop ring = cond (list_any stop ring) (Some (start_place stop ring)) None
+least_stop stop ring = cond (list_any stop ring) (Some (start_index stop ring)) None
 
 -- whether a stop lies on the free loop [topojson-server; own]
 abbrev pub meets_stop : (Pos → Bool) → List Pos → Bool
@@ -23,7 +23,7 @@ meets_stop stop c = list_any stop (unclosed c)
 
 -- the free loop begun and ended at its least stop [topojson-server; own]
 abbrev pub turned_loop : (Pos → Bool) → List Pos → List Pos
-turned_loop stop c = begun_ring stop (unclosed c)
+turned_loop stop c = started_ring stop (unclosed c)
 
 -- the pieces of a free loop: where a stop lies on it, its parts from its least stop on; otherwise itself, and free
 -- [topojson-server; own]

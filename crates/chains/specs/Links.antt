@@ -13,10 +13,10 @@ joined None n = (n, n)
 joined (Some p) n = cond (position_eq p.0 n) p (p.0, n)
 
 -- what is noted for q, once `to` is met as a neighbour of `at`
-abbrev pub noted : List Pos → Pos → Option (Pos × Pos) → Pos → Pos → Option (Pos × Pos)
-noted stops q o at to = cond (among stops at) o (cond (is_eq (position_cmp at q)) (Some (joined o to)) o)
+abbrev pub recorded : List Pos → Pos → Option (Pos × Pos) → Pos → Pos → Option (Pos × Pos)
+recorded stops q o at to = cond (among stops at) o (cond (is_eq (position_cmp at q)) (Some (joined o to)) o)
 
 -- what is noted for q, once the segments are met
-abbrev pub noted_all : List Pos → Pos → Option (Pos × Pos) → List Segment → Option (Pos × Pos)
-noted_all stops q o [] = o
-noted_all stops q o (s ∷ ss) = noted_all stops q (noted stops q (noted stops q o s.ends.lesser s.ends.greater) s.ends.greater s.ends.lesser) ss
+abbrev pub recorded_all : List Pos → Pos → Option (Pos × Pos) → List Segment → Option (Pos × Pos)
+recorded_all stops q o [] = o
+recorded_all stops q o (s ∷ ss) = recorded_all stops q (recorded stops q (recorded stops q o s.ends.lesser s.ends.greater) s.ends.greater s.ends.lesser) ss

@@ -12,9 +12,9 @@ abbrev pub visits_at : Bor (List Pos) → List Visit
 visits_at w = inner_of w.now
 
 -- the visits of such places, and those across the ends of rings
-abbrev pub noted_in : List (Bor (List Pos)) → List Visit → List Visit
-noted_in inner seams = gathered visits_at inner ++ seams
+abbrev pub recorded_in : List (Bor (List Pos)) → List Visit → List Visit
+recorded_in inner seams = gathered visits_at inner ++ seams
 
 -- the visits that were noted
-abbrev pub visits_noted : VisitsSeen → List Visit
-visits_noted s = noted_in s.inner.items s.seams.items
+abbrev pub visits_recorded : VisitsSeen → List Visit
+visits_recorded s = recorded_in s.inner.items s.seams.items

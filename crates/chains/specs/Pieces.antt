@@ -3,7 +3,7 @@ use Rattle.std.specs.Prelude.{ℕ, Bool, true, false, not, cond, ◌&&◌, List,
 use Rattle.std.specs.List.{list_any}
 use Rattle.grid.specs.declared.pos.Pos.{Pos}
 use Rattle.arcs.specs.Among.{among}
-use Rattle.chains.specs.Starts.{start_place}
+use Rattle.chains.specs.Starts.{start_index}
 use Rattle.arcs.specs.declared.piece.Piece.{Piece}
 use Rattle.arcs.specs.Pieces.{piece_along}
 
@@ -42,12 +42,12 @@ abbrev pub opened_at : ℕ → List Pos → List Pos
 opened_at i l = (drop i l ++ take i l) ++ take 1 (drop i l)
 
 -- the ring, closed, from its least stop on, or from its least vertex on where no stop lies on it
-abbrev pub begun_ring : (Pos → Bool) → List Pos → List Pos
-begun_ring stop r = opened_at (start_place stop r) r
+abbrev pub started_ring : (Pos → Bool) → List Pos → List Pos
+started_ring stop r = opened_at (start_index stop r) r
 
 -- the parts of a ring: where a stop lies on it, cut from its least stop on; otherwise the list `whole` that goes round it
 abbrev pub parts_round : (Pos → Bool) → List Pos → List Pos → List (List Pos)
-parts_round stop r whole = cond (list_any stop r) (cut_inside stop (begun_ring stop r)) (whole ∷ [])
+parts_round stop r whole = cond (list_any stop r) (cut_inside stop (started_ring stop r)) (whole ∷ [])
 
 -- each part of a ring as a piece, which is a free loop where no stop lies on the ring
 abbrev pub pieces_round : (Pos → Bool) → List Pos → List Pos → List Piece
@@ -60,4 +60,4 @@ line_pieces junctions l = open_pieces (among junctions) l
 -- the pieces of a ring, where these are the junctions; one on which none lies begins at its least vertex
 -- [topojson-server; own]
 abbrev pub ring_pieces : List Pos → List Pos → List Piece
-ring_pieces junctions r = pieces_round (among junctions) r (begun_ring (among junctions) r)
+ring_pieces junctions r = pieces_round (among junctions) r (started_ring (among junctions) r)

@@ -8,14 +8,14 @@ use Rattle.chains.specs.declared.repeats.Repeats.{Repeats}
 use Rattle.chains.specs.declared.visits.Visit.{Visit}
 
 -- one more vertex is noted: it is met, and it came again where it was met; what was noted stays so
-pub record IsNoted (p : Pos) (old new : Repeats) : Type 0 where
+pub record IsRecorded (p : Pos) (old new : Repeats) : Type 0 where
   pub met : Keeps (may_hold old.met) (may_hold new.met)
   pub again : Keeps (may_hold old.again) (may_hold new.again)
   pub here : may_hold new.met p ≡ true
   pub twice : may_hold old.met p ≡ true → may_hold new.again p ≡ true
 
 -- of all visits, those whose vertex is not met are still to come; of two that clash one is, or their vertex came again
-pub record AreNoted (r : Repeats) (all left : List Visit) : Type 0 where
+pub record AreRecorded (r : Repeats) (all left : List Visit) : Type 0 where
   pub met : (v : Visit) → Has v all → Has v left ⊎ (may_hold r.met v.vertex ≡ true)
   pub again : (v w : Visit) → Has v all → Has w all → v.vertex ≡ w.vertex → ¬ (v ≡ w) → (Has v left ⊎ Has w left) ⊎ (may_hold r.again v.vertex ≡ true)
 

@@ -25,7 +25,7 @@ least_from best least i [] = best
 least_from best least i (s ∷ l) = least_from (cond (is_lt (start_cmp s least)) i best) (cond (is_lt (start_cmp s least)) s least) (i + 1) l
 
 -- the place of the ring's least junction, or of its least vertex where it has no junction
-abbrev pub start_place : (Pos → Bool) → List Pos → ℕ
-start_place stop [] = 0
-start_place stop (x ∷ []) = 0
-start_place stop (x ∷ (y ∷ r)) = least_from 0 (start_of stop x y) 1 (starts_from stop x y r)
+abbrev pub start_index : (Pos → Bool) → List Pos → ℕ
+start_index stop [] = 0
+start_index stop (x ∷ []) = 0
+start_index stop (x ∷ (y ∷ r)) = least_from 0 (start_of stop x y) 1 (starts_from stop x y r)

@@ -13,7 +13,7 @@ ghost use Rattle.theory.specs.Geometry.{Geometry, IsSound, IsLineOf, IsRingOf};
 ghost use Rattle.theory.specs.Refinement.{unclosed};
 ghost use Rattle.theory.specs.Stitching.{ArePiecesOf, AreRingPiecesOf};
 
-use crate::starts::place_of_start;
+use crate::starts::index_of_start;
 use crate::stops::Stops;
 use crate::visits::VisitIndex;
 pub use arcs::piece::Piece;
@@ -82,7 +82,7 @@ fn free_piece(alloc: Global, chain: Vec<Pos>) -> Result<Vec<Piece>, AllocError>
 fn ring_cut(alloc: Global, index: &VisitIndex, ring: &[Pos]) -> Result<Vec<Piece>, AllocError>
     ensures { IfOk result (λ v. v.items ≡ ring_pieces index.now ring.now) }
 {
-    let at = place_of_start(index, ring);
+    let at = index_of_start(index, ring);
     if at >= ring.len() {
         return free_piece(alloc, Vec::new(alloc));
     }
@@ -95,11 +95,11 @@ fn ring_cut(alloc: Global, index: &VisitIndex, ring: &[Pos]) -> Result<Vec<Piece
 }
 
 /// The place of the least vertex of a ring that is a stop, where one lies on it.
-fn place_of_least_stop<S: Stops>(stops: &S, ring: &[Pos]) -> Option<usize>
+fn index_of_least_stop<S: Stops>(stops: &S, ring: &[Pos]) -> Option<usize>
     ensures is { result ≡ least_stop (among (S.at stops.now)) ring.now }
     ensures within { IfSome result (λ i. i < length ring.now) }
 {
-    let at = place_of_start(stops, ring);
+    let at = index_of_start(stops, ring);
     if at >= ring.len() {
         return None;
     }
@@ -125,7 +125,7 @@ fn cut_loop<S: Stops>(alloc: Global, stops: &S, arc: &[Pos]) -> Result<Vec<Piece
     ensures { IfOk result (λ v. v.items ≡ loop_pieces (among (S.at stops.now)) arc.now) }
 {
     let ring = ring_round(arc);
-    if let Some(at) = place_of_least_stop(stops, ring) {
+    if let Some(at) = index_of_least_stop(stops, ring) {
         return cut_inside(alloc, stops, &open_ring(alloc, ring, at)?);
     }
     free_piece(alloc, arc.to_vec(alloc)?)

@@ -1,7 +1,7 @@
 //! Finding the maximal chains over segments, by walking along them from stop to stop.
 ghost use Rattle.arcs.specs.Among.{among};
 ghost use Rattle.chains.specs.Joined.{AmongSegments, MeetsTwo, IsJoining, Took, AreCovering, AreParted, AreMaximal};
-ghost use Rattle.chains.specs.Links.{joined, noted, noted_all};
+ghost use Rattle.chains.specs.Links.{joined, recorded, recorded_all};
 ghost use Rattle.chains.specs.Pieces.{oriented};
 ghost use Rattle.chains.specs.Walk.{IsWalk, links_in};
 ghost use Rattle.chains.specs.declared.segment.Segment.{Segment};
@@ -71,7 +71,7 @@ fn link(
     at: Pos,
     to: Pos,
 ) -> Result<(), AllocError>
-    ensures { OnOk result ((q : Pos) → links_in links.new q ≡ noted stops.now q (links_in links.old q) at to) }
+    ensures { OnOk result ((q : Pos) → links_in links.new q ≡ recorded stops.now q (links_in links.old q) at to) }
 {
     if is_stop(stops, at) {
         return Ok(());
@@ -87,7 +87,7 @@ fn links_of(
     segments: &[Segment],
     stops: &StopSet,
 ) -> Result<BTreeMap<Pos, (Pos, Pos)>, AllocError>
-    ensures { IfOk result (λ m. (q : Pos) → links_in m q ≡ noted_all stops.now q None segments.now) }
+    ensures { IfOk result (λ m. (q : Pos) → links_in m q ≡ recorded_all stops.now q None segments.now) }
 {
     let mut links = BTreeMap::new(alloc);
     for segment in segments {

@@ -6,7 +6,7 @@ use arcs::marking::{first_mark, is_marked};
 use arcs::piece::Piece;
 use arcs::table::ArcTable;
 use grid::pos::Pos;
-use lines::position_filter::place_among;
+use lines::position_filter::index_among;
 use shapes::feature::Feature;
 use shapes::feature_map::FeatureMap;
 use shapes::shape::Shape;
@@ -83,12 +83,12 @@ pub(crate) fn count_in_marked_pieces(pieces: &[Piece], marks: &[bool]) -> usize 
 /// been noted in its stead.
 #[derive(Drop)]
 pub(crate) struct Recent {
-    places: Vec<u32>,
+    indexes: Vec<u32>,
 }
 
 /// A place in a list as the table keeps it. Beyond the greatest number that it can keep it keeps that
 /// one, and the hint is wrong.
-pub(crate) fn kept_place(place: usize) -> u32 {
+pub(crate) fn kept_index(place: usize) -> u32 {
     place.min(u32::MAX as usize) as u32
 }
 
@@ -96,16 +96,16 @@ impl Recent {
     /// A table for so many positions. It is as large from the start as it will ever be, since nothing
     /// that it holds would be found in a larger one.
     pub(crate) fn for_positions(alloc: Global, count: usize) -> Result<Recent, AllocError> {
-        let places = count.saturating_mul(PLACES_EACH).min(MOST_PLACES);
+        let indexes = count.saturating_mul(PLACES_EACH).min(MOST_PLACES);
         Ok(Recent {
-            places: vec![in alloc; 0; places]?,
+            indexes: vec![in alloc; 0; indexes]?,
         })
     }
 
     /// The place that is noted for a position.
     pub(crate) fn place(&mut self, position: Pos) -> Option<&mut u32> {
-        let at = place_among(self.places.len(), position);
-        self.places.get_mut(at)
+        let at = index_among(self.indexes.len(), position);
+        self.indexes.get_mut(at)
     }
 }
 
@@ -122,12 +122,12 @@ impl RecentVertices {
         ensures { OnOk result (HaveSame self.new.positions.items (self.old.positions.items ++ position ∷ [])) }
     {
         if let Some(place) = self.recent.place(position) {
-            if let Some(noted) = self.positions.get(*place as usize) {
-                if *noted == position {
+            if let Some(recorded) = self.positions.get(*place as usize) {
+                if *recorded == position {
                     return Ok(());
                 }
             }
-            *place = kept_place(self.positions.len());
+            *place = kept_index(self.positions.len());
         }
         self.positions.push(position)?;
         Ok(())
@@ -138,12 +138,12 @@ impl RecentVertices {
 pub(crate) fn dedup_recent(alloc: Global, positions: &[Pos]) -> Result<Vec<Pos>, AllocError>
     ensures { IfOk result (λ v. HaveSame v.items positions.now) }
 {
-    let mut noted = RecentVertices {
+    let mut recorded = RecentVertices {
         positions: Vec::new(alloc),
         recent: Recent::for_positions(alloc, positions.len())?,
     };
     for position in positions {
-        noted.insert(*position)?;
+        recorded.insert(*position)?;
     }
-    Ok(noted.positions)
+    Ok(recorded.positions)
 }

@@ -1,8 +1,8 @@
 //! Which visits are at a vertex that others visit too: only these can clash.
-ghost use Rattle.chains.specs.Noted.{noted_in, visits_at};
+ghost use Rattle.chains.specs.Noted.{recorded_in, visits_at};
 ghost use Rattle.chains.specs.ManyTables as spec;
 ghost use Rattle.chains.specs.ManyTables.{MarkShared, piece_meets};
-ghost use Rattle.chains.specs.Repeats.{AreMet, AreNoted, HoldsClashing, IsNoted};
+ghost use Rattle.chains.specs.Repeats.{AreMet, AreRecorded, HoldsClashing, IsRecorded};
 ghost use Rattle.chains.specs.VertexFilter.{KeepsClashes};
 ghost use Rattle.chains.specs.declared.visits.Visit.{Visit as Visiting};
 ghost use Rattle.lines.specs.PositionFilter.{may_hold};
@@ -36,7 +36,7 @@ pub(crate) struct Repeats {
 impl Repeats {
     /// Notes the vertex of one more visit.
     fn insert(&mut self, vertex: Pos)
-        ensures { IsNoted vertex self.old self.new }
+        ensures { IsRecorded vertex self.old self.new }
     {
         if self.met.may_hold(vertex) {
             self.again.mark(vertex);
@@ -47,7 +47,7 @@ impl Repeats {
 
     /// Notes the vertices of places between two others.
     fn add_inner(&mut self, inner: &[&[Pos; 3]])
-        ensures { (all later : List Visiting) → AreNoted self.old all (gathered visits_at inner.now ++ later) → AreNoted self.new all later }
+        ensures { (all later : List Visiting) → AreRecorded self.old all (gathered visits_at inner.now ++ later) → AreRecorded self.new all later }
     {
         for window in inner {
             self.insert(visit_within(window).vertex);
@@ -56,7 +56,7 @@ impl Repeats {
 
     /// Notes the vertices of visits.
     fn add_visits(&mut self, visits: &[Visit])
-        ensures { (all later : List Visiting) → AreNoted self.old all (visits.now ++ later) → AreNoted self.new all later }
+        ensures { (all later : List Visiting) → AreRecorded self.old all (visits.now ++ later) → AreRecorded self.new all later }
     {
         for visit in visits {
             self.insert(visit.vertex);
@@ -65,7 +65,7 @@ impl Repeats {
 
     /// The vertices of the visits of places, and of others.
     fn of(alloc: Global, inner: &[&[Pos; 3]], seams: &[Visit]) -> Result<Repeats, AllocError>
-        ensures { IfOk result (λ r. HoldsClashing (may_hold r.again) (noted_in inner.now seams.now)) }
+        ensures { IfOk result (λ r. HoldsClashing (may_hold r.again) (recorded_in inner.now seams.now)) }
     {
         let count = inner.len().saturating_add(seams.len());
         let mut repeats = Repeats {
@@ -194,7 +194,7 @@ pub(crate) fn find_repeated(
     inner: &[&[Pos; 3]],
     seams: &[Visit],
 ) -> Result<Vec<Visit>, AllocError>
-    ensures { IfOk result (λ kept. KeepsClashes kept.items (noted_in inner.now seams.now)) }
+    ensures { IfOk result (λ kept. KeepsClashes kept.items (recorded_in inner.now seams.now)) }
 {
     let repeats = Repeats::of(alloc, inner, seams)?;
     let mut kept = Vec::new(alloc);

@@ -1,6 +1,6 @@
 //! Where the cut of a ring begins: at its least stop, or at its least vertex where it has none.
 ghost use Rattle.arcs.specs.Among.{among};
-ghost use Rattle.chains.specs.Starts.{start_of, start_cmp, start_place};
+ghost use Rattle.chains.specs.Starts.{start_of, start_cmp, start_index};
 ghost use Rattle.std.specs.Ordering.{is_lt};
 ghost use Rattle.std.specs.Prelude.{◌≡◌};
 
@@ -44,8 +44,8 @@ fn improves<S: Stops>(stops: &S, best: &RingStart, from: Pos, to: Pos) -> bool
 
 /// The place from which a ring is cut. Of two rotations that begin at one vertex the one with the
 /// lesser second vertex comes first, since no segment of a ring occurs twice.
-pub(crate) fn place_of_start<S: Stops>(stops: &S, ring: &[Pos]) -> usize
-    ensures { result ≡ start_place (among (S.at stops.now)) ring.now }
+pub(crate) fn index_of_start<S: Stops>(stops: &S, ring: &[Pos]) -> usize
+    ensures { result ≡ start_index (among (S.at stops.now)) ring.now }
 {
     let Some((first, others)) = ring.split_first() else {
         return 0;

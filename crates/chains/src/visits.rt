@@ -10,7 +10,7 @@ ghost use Rattle.chains.specs.Seen.{form_of, geometry_of, seen};
 ghost use Rattle.chains.specs.VertexFilter.{KeepsClashes, StaysApart, StayWhole, arc_meets, arc_shared, may_hold, meets, meets_if, met_visits, shared_if};
 ghost use Rattle.arcs.specs.Table.{IsTableOf};
 ghost use Rattle.chains.specs.Visits.{visit_of, inner_of, ends_of, around_of, clash, clashes_of, HaveSame};
-ghost use Rattle.chains.specs.Noted.{visits_at, visits_noted};
+ghost use Rattle.chains.specs.Noted.{visits_at, visits_recorded};
 ghost use Rattle.chains.specs.declared.visits.Visit.{Visit as Visiting};
 ghost use Rattle.grid.specs.declared.pos.Pos.{Pos};
 ghost use Rattle.lines.specs.Pairs.{pair_of};
@@ -24,7 +24,7 @@ ghost use Rattle.theory.specs.Refinement.{IsUnionOf, unclosed};
 ghost use Rattle.theory.specs.Segments.{OnThree};
 ghost use Rattle.theory.specs.Topology.{forms_of, lines_in, rings_in};
 
-use crate::recent::{Recent, count_in_map, count_in_marked_arcs, dedup_recent, kept_place};
+use crate::recent::{Recent, count_in_map, count_in_marked_arcs, dedup_recent, kept_index};
 use crate::repeats::find_repeated;
 use crate::vertex_filter::{VertexFilter, inside};
 use arcs::Extent;
@@ -113,7 +113,7 @@ impl<'a> VisitsSeen<'a> {
     /// Nothing is seen yet; so many visits may be noted.
     fn nothing(alloc: Global, visits: usize) -> Result<VisitsSeen<'a>, AllocError>
         ensures ends { IfOk result (λ s. s.ends.items ≡ []) }
-        ensures visits { IfOk result (λ s. visits_noted s ≡ []) }
+        ensures visits { IfOk result (λ s. visits_recorded s ≡ []) }
     {
         Ok(VisitsSeen {
             ends: Vec::new(alloc),
@@ -143,7 +143,7 @@ impl<'a> VisitsSeen<'a> {
     /// recent visits points.
     fn insert(&mut self, window: &'a [Pos; 3]) -> Result<(), AllocError>
         ensures ends { self.new.ends.items ≡ self.old.ends.items }
-        ensures visits { OnOk result (HaveSame (visits_noted self.new) (visits_noted self.old ++ inner_of window.now)) }
+        ensures visits { OnOk result (HaveSame (visits_recorded self.new) (visits_recorded self.old ++ inner_of window.now)) }
     {
         if let Some(index) = self.beside_last(window) {
             self.last_found = index;
@@ -155,7 +155,7 @@ impl<'a> VisitsSeen<'a> {
                 self.last_found = index;
                 return Ok(());
             }
-            *place = kept_place(self.inner.len());
+            *place = kept_index(self.inner.len());
         }
         self.inner.push(window)?;
         Ok(())
@@ -164,7 +164,7 @@ impl<'a> VisitsSeen<'a> {
     /// Notes the first and the last place of a line.
     fn see_ends(&mut self, line: &[Pos]) -> Result<(), AllocError>
         ensures ends { OnOk result (self.new.ends.items ≡ self.old.ends.items ++ ends_of line.now) }
-        ensures visits { visits_noted self.new ≡ visits_noted self.old }
+        ensures visits { visits_recorded self.new ≡ visits_recorded self.old }
     {
         let Some((first, others)) = line.split_first() else {
             return Ok(());
@@ -179,7 +179,7 @@ impl<'a> VisitsSeen<'a> {
     /// Notes the visits of a line that are no ends.
     fn see_inside(&mut self, line: &'a [Pos]) -> Result<(), AllocError>
         ensures ends { OnOk result (self.new.ends.items ≡ self.old.ends.items) }
-        ensures visits { OnOk result (HaveSame (visits_noted self.new) (visits_noted self.old ++ inner_of line.now)) }
+        ensures visits { OnOk result (HaveSame (visits_recorded self.new) (visits_recorded self.old ++ inner_of line.now)) }
     {
         let mut left = line;
         while let Some((window, _)) = left.split_first_chunk::<3>() {
@@ -191,7 +191,7 @@ impl<'a> VisitsSeen<'a> {
 
     fn see_line(&mut self, line: &'a [Pos]) -> Result<(), AllocError>
         ensures ends { OnOk result (self.new.ends.items ≡ self.old.ends.items ++ ends_of line.now) }
-        ensures visits { OnOk result (HaveSame (visits_noted self.new) (visits_noted self.old ++ inner_of line.now)) }
+        ensures visits { OnOk result (HaveSame (visits_recorded self.new) (visits_recorded self.old ++ inner_of line.now)) }
     {
         self.see_ends(line)?;
         self.see_inside(line)
@@ -199,7 +199,7 @@ impl<'a> VisitsSeen<'a> {
 
     fn see_ring(&mut self, ring: &'a [Pos]) -> Result<(), AllocError>
         ensures ends { OnOk result (self.new.ends.items ≡ self.old.ends.items) }
-        ensures visits { OnOk result (HaveSame (visits_noted self.new) (visits_noted self.old ++ around_of ring.now)) }
+        ensures visits { OnOk result (HaveSame (visits_recorded self.new) (visits_recorded self.old ++ around_of ring.now)) }
     {
         self.see_inside(ring)?;
         let count = ring.len();
@@ -217,7 +217,7 @@ impl<'a> VisitsSeen<'a> {
     /// Notes the ends of an arc; a free loop has none.
     fn see_arc_ends(&mut self, arc: &[Pos], free: bool) -> Result<(), AllocError>
         ensures ends { OnOk result (self.new.ends.items ≡ self.old.ends.items ++ cond free [] (ends_of arc.now)) }
-        ensures visits { visits_noted self.new ≡ visits_noted self.old }
+        ensures visits { visits_recorded self.new ≡ visits_recorded self.old }
     {
         if free {
             return Ok(());
@@ -228,7 +228,7 @@ impl<'a> VisitsSeen<'a> {
     /// Notes the other visits of an arc: a free loop is a ring, each other arc a line.
     fn see_arc_inside(&mut self, arc: &'a [Pos], free: bool) -> Result<(), AllocError>
         ensures ends { OnOk result (self.new.ends.items ≡ self.old.ends.items) }
-        ensures visits { OnOk result (HaveSame (visits_noted self.new) (visits_noted self.old ++ cond free (around_of (unclosed arc.now)) (inner_of arc.now))) }
+        ensures visits { OnOk result (HaveSame (visits_recorded self.new) (visits_recorded self.old ++ cond free (around_of (unclosed arc.now)) (inner_of arc.now))) }
     {
         if !free {
             return self.see_inside(arc);
@@ -249,7 +249,7 @@ impl<'a> VisitsSeen<'a> {
     ) -> Result<bool, AllocError>
         requires { StaysApart (may_hold other.now) arc.now near }
         ensures ends { OnOk result (self.new.ends.items ≡ self.old.ends.items) }
-        ensures visits { OnOk result (HaveSame (visits_noted self.new) (visits_noted self.old ++ met_visits (may_hold other.now) free arc.now)) }
+        ensures visits { OnOk result (HaveSame (visits_recorded self.new) (visits_recorded self.old ++ met_visits (may_hold other.now) free arc.now)) }
         ensures met { IfOk result (λ b. b ≡ meets (may_hold other.now) free arc.now) }
     {
         if !near || !other.may_meet(inside(arc, free)) {
@@ -270,7 +270,7 @@ impl<'a> VisitsSeen<'a> {
     ) -> Result<bool, AllocError>
         requires { StaysApart (may_hold other.now) arc.now near }
         ensures ends { OnOk result (self.new.ends.items ≡ self.old.ends.items ++ cond free [] (ends_of arc.now)) }
-        ensures visits { OnOk result (HaveSame (visits_noted self.new) (visits_noted self.old ++ met_visits (may_hold other.now) free arc.now)) }
+        ensures visits { OnOk result (HaveSame (visits_recorded self.new) (visits_recorded self.old ++ met_visits (may_hold other.now) free arc.now)) }
         ensures met { IfOk result (λ b. b ≡ meets (may_hold other.now) free arc.now) }
     {
         self.see_arc_ends(arc, free)?;
@@ -286,7 +286,7 @@ impl<'a> VisitsSeen<'a> {
     ) -> Result<bool, AllocError>
         requires { (c : List Pos) → slice_get table.now.arcs number ≡ Some c → StaysApart (may_hold other.now) c near }
         ensures ends { OnOk result (self.new.ends.items ≡ self.old.ends.items ++ ends_if table.now.loops (slice_get table.now.arcs number)) }
-        ensures visits { OnOk result (HaveSame (visits_noted self.new) (visits_noted self.old ++ shared_if (may_hold other.now) table.now.loops (slice_get table.now.arcs number))) }
+        ensures visits { OnOk result (HaveSame (visits_recorded self.new) (visits_recorded self.old ++ shared_if (may_hold other.now) table.now.loops (slice_get table.now.arcs number))) }
         ensures met { IfOk result (λ b. b ≡ meets_if (may_hold other.now) table.now.loops (slice_get table.now.arcs number)) }
     {
         match table.arc(number) {
@@ -307,7 +307,7 @@ impl<'a> VisitsSeen<'a> {
     ) -> Result<Vec<bool>, AllocError>
         requires { near.now ≡ map_list (list_any (within other.now.extent)) table.now.arcs }
         ensures ends { OnOk result (self.new.ends.items ≡ self.old.ends.items ++ gathered (arc_ends table.now.loops) table.now.arcs) }
-        ensures visits { OnOk result (HaveSame (visits_noted self.new) (visits_noted self.old ++ gathered (arc_shared (may_hold other.now) table.now.loops) table.now.arcs)) }
+        ensures visits { OnOk result (HaveSame (visits_recorded self.new) (visits_recorded self.old ++ gathered (arc_shared (may_hold other.now) table.now.loops) table.now.arcs)) }
         ensures marks { IfOk result (λ v. v.items ≡ map_list (arc_meets (may_hold other.now) table.now.loops) table.now.arcs) }
     {
         let mut marks = Vec::with_capacity(alloc, table.len())?;
@@ -319,7 +319,7 @@ impl<'a> VisitsSeen<'a> {
 
     fn see_lines(&mut self, shape: &'a Shape) -> Result<(), AllocError>
         ensures ends { OnOk result (self.new.ends.items ≡ self.old.ends.items ++ form_ends (form_of shape.now)) }
-        ensures visits { OnOk result (HaveSame (visits_noted self.new) (visits_noted self.old ++ gathered inner_of (lines_in (form_of shape.now)))) }
+        ensures visits { OnOk result (HaveSame (visits_recorded self.new) (visits_recorded self.old ++ gathered inner_of (lines_in (form_of shape.now)))) }
     {
         for line in shape.lines() {
             self.see_line(line.positions())?;
@@ -329,7 +329,7 @@ impl<'a> VisitsSeen<'a> {
 
     fn see_rings(&mut self, shape: &'a Shape) -> Result<(), AllocError>
         ensures ends { OnOk result (self.new.ends.items ≡ self.old.ends.items) }
-        ensures visits { OnOk result (HaveSame (visits_noted self.new) (visits_noted self.old ++ gathered around_of (rings_in (form_of shape.now)))) }
+        ensures visits { OnOk result (HaveSame (visits_recorded self.new) (visits_recorded self.old ++ gathered around_of (rings_in (form_of shape.now)))) }
     {
         for ring in shape.rings() {
             self.see_ring(ring.vertices())?;
@@ -339,7 +339,7 @@ impl<'a> VisitsSeen<'a> {
 
     fn see_features(&mut self, features: &'a BTreeSet<Feature>) -> Result<(), AllocError>
         ensures ends { OnOk result (self.new.ends.items ≡ self.old.ends.items ++ gathered feature_ends (set.items (set_of features.now))) }
-        ensures visits { OnOk result (HaveSame (visits_noted self.new) (visits_noted self.old ++ gathered feature_visits (set.items (set_of features.now)))) }
+        ensures visits { OnOk result (HaveSame (visits_recorded self.new) (visits_recorded self.old ++ gathered feature_visits (set.items (set_of features.now)))) }
     {
         for feature in features.iter() {
             self.see_lines(&feature.shape)?;
@@ -350,7 +350,7 @@ impl<'a> VisitsSeen<'a> {
 
     fn see_layers(&mut self, map: &'a FeatureMap) -> Result<(), AllocError>
         ensures ends { OnOk result (self.new.ends.items ≡ self.old.ends.items ++ gathered form_ends (forms_of (seen map.now))) }
-        ensures visits { OnOk result (HaveSame (visits_noted self.new) (visits_noted self.old ++ gathered form_visits (forms_of (seen map.now)))) }
+        ensures visits { OnOk result (HaveSame (visits_recorded self.new) (visits_recorded self.old ++ gathered form_visits (forms_of (seen map.now)))) }
     {
         for layer in map.layers() {
             self.see_features(&layer.features)?;
@@ -417,7 +417,7 @@ pub struct ArcsIndex {
 
 impl VisitIndex {
     fn of_seen(alloc: Global, seen: VisitsSeen<'_>) -> Result<VisitIndex, AllocError>
-        ensures { IfOk result (λ i. (g : Geometry Pos) (all : List Visiting) → KeepsClashes (visits_noted seen.entry) all → AreVisitsOf seen.entry.ends.items all g → IsIndexOf i g) }
+        ensures { IfOk result (λ i. (g : Geometry Pos) (all : List Visiting) → KeepsClashes (visits_recorded seen.entry) all → AreVisitsOf seen.entry.ends.items all g → IsIndexOf i g) }
     {
         let VisitsSeen {
             ends,

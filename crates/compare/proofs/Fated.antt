@@ -52,9 +52,9 @@ pub when_some : (P : ℕ → Type 0) (o : Option ℕ) (b : Bool) → b ≡ is_no
 when_some P None b e t h = absurd (let f : true ≡ false = sym e ∙ t in cc)
 when_some P (Some k) b e t h = (k, h)
 
-pub none_told : {P Q : Type 0} (o : Option ℕ) → (P → Q) → IfNone o P → IfNone o Q
-none_told None f h = f h
-none_told (Some k) f h = tt
+pub none_means : {P Q : Type 0} (o : Option ℕ) → (P → Q) → IfNone o P → IfNone o Q
+none_means None f h = f h
+none_means (Some k) f h = tt
 
 pub partners_by : (own others : Index) (i : ℕ) (g : Geom) (k : Id) (o : Option ℕ) → slice_get own.geometries.now i ≡ Some g → slice_get (keys_in own.keys) i ≡ Some k →
     ((gs : List Geom) (ks : List Id) → IsIndexOf gs ks others → ¬ Has g gs) →

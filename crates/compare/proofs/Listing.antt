@@ -117,12 +117,12 @@ module _ (gs hs : List Geom) (ks ls : List Id) where
 
 -- ---- all three lists
 
-pub difference_told : (gs hs : List Geom) (ks ls : List Id) (olds news : Index) (d : LayerDifference) → IsIndexOf gs ks olds → IsIndexOf hs ls news →
+pub difference_means : (gs hs : List Geom) (ks ls : List Id) (olds news : Index) (d : LayerDifference) → IsIndexOf gs ks olds → IsIndexOf hs ls news →
     (IsIndexOf olds.geometries.now (keys_in olds.keys) olds → (gs : List Geom) (ks : List Id) → IsIndexOf gs ks news → Those (IsGoneAt olds.geometries.now gs (keys_in olds.keys) ks) (length olds.geometries.now) d.removed.items) →
     (IsIndexOf news.geometries.now (keys_in news.keys) news → (gs : List Geom) (ks : List Id) → IsIndexOf gs ks olds → Those (IsGoneAt news.geometries.now gs (keys_in news.keys) ks) (length news.geometries.now) d.added.items) →
     (IsIndexOf olds.geometries.now (keys_in olds.keys) olds → (gs : List Geom) (ks : List Id) → IsIndexOf gs ks news → ArePairs olds.geometries.now gs (keys_in olds.keys) ks (length olds.geometries.now) d.changed.items) →
     IsDifferenceAt gs hs ks ls d
-difference_told gs hs ks ls olds news d o n removed added changed =
+difference_means gs hs ks ls olds news d o n removed added changed =
     let r = subst (λ w. IsIndexOf w ks olds → (gs : List Geom) (ls : List Id) → IsIndexOf gs ls news → Those (IsGoneAt w gs ks ls) (length w) d.removed.items) o.lends
     (subst (λ w. IsIndexOf olds.geometries.now w olds → (gs : List Geom) (ks : List Id) → IsIndexOf gs ks news → Those (IsGoneAt olds.geometries.now gs w ks) (length olds.geometries.now) d.removed.items) o.keys removed) o hs ls n in
     let a = subst (λ w. IsIndexOf w ls news → (gs : List Geom) (ks : List Id) → IsIndexOf gs ks olds → Those (IsGoneAt w gs ls ks) (length w) d.added.items) n.lends

@@ -201,9 +201,9 @@ module _ (m n : Layers) (c : Comparison) (q : List ℕ) (p : LayerPair) (h : IsC
   news : Pairwise (IsListedFor G c.arcs.arcs) (set.items (features_at n q)) (geometries_from c.new.items p.new)
   news = at_number G c.arcs.arcs n c.new.items h.new q p.new named.new
 
-  pub told_by_ids : IsDifferenceAt (geometries_from c.old.items p.old) (geometries_from c.new.items p.new) (map_list id_of (geometries_from c.old.items p.old)) (map_list id_of (geometries_from c.new.items p.new)) d →
+  pub if_by_ids : IsDifferenceAt (geometries_from c.old.items p.old) (geometries_from c.new.items p.new) (map_list id_of (geometries_from c.old.items p.old)) (map_list id_of (geometries_from c.new.items p.new)) d →
       IsDifference feature_id (set.items (features_at m q)) (set.items (features_at n q)) d
-  told_by_ids is =
+  if_by_ids is =
       let sound = are_sound (union m n) in
       difference_alike ids.None feature_id (IsListedFor G c.arcs.arcs) (λ j k. j ≡ k) (alike G sound c.arcs.arcs h.all)
       (λ j k x y a b. ((λ e. sym a ∙ e ∙ b), (λ e. a ∙ e ∙ sym b))) (λ k x a. ((λ e. sym a ∙ e), (λ e. a ∙ e)))
@@ -212,9 +212,9 @@ module _ (m n : Layers) (c : Comparison) (q : List ℕ) (p : LayerPair) (h : IsC
       (keyed_by_ids G sound c.arcs.arcs h.all (set.items (features_at m q)) (geometries_from c.old.items p.old) olds)
       (keyed_by_ids G sound c.arcs.arcs h.all (set.items (features_at n q)) (geometries_from c.new.items p.new) news) d is
 
-  pub told_by_values : (name : List ℕ) (ks ls : List Id) → AreKeys name (geometries_from c.old.items p.old) ks → AreKeys name (geometries_from c.new.items p.new) ls →
+  pub if_by_values : (name : List ℕ) (ks ls : List Id) → AreKeys name (geometries_from c.old.items p.old) ks → AreKeys name (geometries_from c.new.items p.new) ls →
       IsDifferenceAt (geometries_from c.old.items p.old) (geometries_from c.new.items p.new) ks ls d → IsDifferenceByProperty name (set.items (features_at m q)) (set.items (features_at n q)) d
-  told_by_values name ks ls k l is =
+  if_by_values name ks ls k l is =
       let sound = are_sound (union m n) in
       difference_alike None (feature_key name) (IsListedFor G c.arcs.arcs) IsKey (alike G sound c.arcs.arcs h.all) one_key no_key
       (set.items (features_at m q)) (set.items (features_at n q)) (geometries_from c.old.items p.old) (geometries_from c.new.items p.new) ks ls olds news
@@ -227,7 +227,7 @@ pub answers_by_ids : {E : Type 0} (c : Comparison) (p : LayerPair) (old new : Li
     IfOk r (λ d. IsDifferenceAt old new (map_list id_of old) (map_list id_of new) d) →
     IfOk r (λ d. (m n : Layers) (q : List ℕ) → IsComparisonOf m n c → IsPairOf c q p → IsDifference feature_id (set.items (features_at m q)) (set.items (features_at n q)) d)
 answers_by_ids c p old new (Ok d) a b is = λ m n q h named.
-    told_by_ids m n c q p h named d
+    if_by_ids m n c q p h named d
     (subst (λ w. IsDifferenceAt (geometries_from c.old.items p.old) w (map_list id_of (geometries_from c.old.items p.old)) (map_list id_of w) d) b
     (subst (λ w. IsDifferenceAt w new (map_list id_of w) (map_list id_of new) d) a is))
 answers_by_ids c p old new (Err e) a b is = tt
@@ -236,7 +236,7 @@ pub answers_by_values : {E : Type 0} (c : Comparison) (p : LayerPair) (name : Li
     IfOk r (λ d. (ks : List Id) × (ls : List Id) × AreKeys name old ks × AreKeys name new ls × IsDifferenceAt old new ks ls d) →
     IfOk r (λ d. (m n : Layers) (q : List ℕ) → IsComparisonOf m n c → IsPairOf c q p → IsDifferenceByProperty name (set.items (features_at m q)) (set.items (features_at n q)) d)
 answers_by_values c p name old new (Ok d) a b (ks, ls, k, l, is) = λ m n q h named.
-    told_by_values m n c q p h named d name ks ls (subst (λ w. AreKeys name w ks) a k) (subst (λ w. AreKeys name w ls) b l)
+    if_by_values m n c q p h named d name ks ls (subst (λ w. AreKeys name w ks) a k) (subst (λ w. AreKeys name w ls) b l)
     (subst (λ w. IsDifferenceAt (geometries_from c.old.items p.old) w ks ls d) b (subst (λ w. IsDifferenceAt w new ks ls d) a is))
 answers_by_values c p name old new (Err e) a b is = tt
 

@@ -37,12 +37,12 @@ Found None = ⊥
 Found (Some k) = Unit {0}
 
 -- the geometry is at a place below n
-abbrev pub StandsBelow : List Geom → ℕ → Geom → Type 0
-StandsBelow gs n g = (k : ℕ) × (k < n) × (slice_get gs k ≡ Some g)
+abbrev pub OccursBelow : List Geom → ℕ → Geom → Type 0
+OccursBelow gs n g = (k : ℕ) × (k < n) × (slice_get gs k ≡ Some g)
 
 -- the table has the first n geometries
 abbrev pub Knows : List Geom → ℕ → tree.BTreeMap (Bor Geom) ℕ → Type 0
-Knows gs n m = (q : Bor Geom) → Found (tree.get borrowed_cmp m q) ↔ StandsBelow gs n q.now
+Knows gs n m = (q : Bor Geom) → Found (tree.get borrowed_cmp m q) ↔ OccursBelow gs n q.now
 
 -- where a key occurs once it is at n, by where it stood below
 abbrev pub occurrence_after : ℕ → Option Occurrence → Occurrence
@@ -50,14 +50,14 @@ occurrence_after n None = Single n
 occurrence_after n (Some s) = Repeated
 
 -- where the key is among the first n
-abbrev pub StandsAs : List Id → ℕ → Id → Option Occurrence → Type 0
-StandsAs ks n x None = (j : ℕ) → j < n → ¬ (slice_get ks j ≡ Some x)
-StandsAs ks n x (Some (Single k)) = (k < n) × (slice_get ks k ≡ Some x) × ((j : ℕ) → j < n → slice_get ks j ≡ Some x → j ≡ k)
-StandsAs ks n x (Some Repeated) = (j : ℕ) × (k : ℕ) × (¬ (j ≡ k)) × (slice_get ks j ≡ Some x) × (slice_get ks k ≡ Some x)
+abbrev pub OccursAs : List Id → ℕ → Id → Option Occurrence → Type 0
+OccursAs ks n x None = (j : ℕ) → j < n → ¬ (slice_get ks j ≡ Some x)
+OccursAs ks n x (Some (Single k)) = (k < n) × (slice_get ks k ≡ Some x) × ((j : ℕ) → j < n → slice_get ks j ≡ Some x → j ≡ k)
+OccursAs ks n x (Some Repeated) = (j : ℕ) × (k : ℕ) × (¬ (j ≡ k)) × (slice_get ks j ≡ Some x) × (slice_get ks k ≡ Some x)
 
 -- the table has where each key is among the first n
 abbrev pub occurrences_of : List Id → ℕ → tree.BTreeMap (Bor Id) Occurrence → Type 0
-occurrences_of ks n m = (q : Bor Id) → StandsAs ks n q.now (tree.get borrowed_id_cmp m q)
+occurrences_of ks n m = (q : Bor Id) → OccursAs ks n q.now (tree.get borrowed_id_cmp m q)
 
 -- the index of a list of geometries with their keys: which geometries there are, and where each key occurs
 pub record IsIndexOf (gs : List Geom) (ks : List Id) (i : Index) : Type 0 where

@@ -106,7 +106,7 @@ pub fn geometry_of(alloc: Global, members: GeometryMembers) -> Result<(RawGeomet
 }
 
 // The geometry of an object that has begun.
-fn read_begun<'t>(
+fn read_started<'t>(
     alloc: Global,
     grid: &DecimalGrid,
     reader: &mut Reader<'t>,
@@ -141,7 +141,7 @@ pub fn read_geometry<'t>(
             if depth == 0 {
                 return Err(Stop::Unread);
             }
-            read_begun(alloc, grid, reader, depth - 1)
+            read_started(alloc, grid, reader, depth - 1)
         }
         _ => Err(Stop::Unread),
     }

@@ -220,8 +220,8 @@ no_length (x ∷ xs) n e f = let z : n ≡ 0 = (unsigned_Decides n 0).0 f in abs
 length_none : {A : Type 0} (xs : List A) (n : ℕ) → n ≡ length xs → xs ≡ [] → (n == 0) ≡ true
 length_none xs n e f = (unsigned_Decides n 0).1 (e ∙ ap length f)
 
-told_same : (l : LayerChanges) → is_same_layer l ≡ true → IsSame l
-told_same l e =
+if_same : (l : LayerChanges) → is_same_layer l ≡ true → IsSame l
+if_same l e =
     let a = both (is_some l.layers.old) _ e in
     let b = both (is_some l.layers.new) _ a.1 in
     let c = both (vec_len l.removed == 0) _ b.1 in
@@ -234,8 +234,8 @@ told_same l e =
       changed = no_length l.changed.items (vec_len l.changed) (omega (arith, l.changed.ok.0)) d.1;
     }
 
-same_told : (l : LayerChanges) → IsSame l → is_same_layer l ≡ true
-same_told l s =
+same_means : (l : LayerChanges) → IsSame l → is_same_layer l ≡ true
+same_means l s =
     and_both (is_some l.layers.old) _ s.old
     (and_both (is_some l.layers.new) _ s.new
     (and_both (vec_len l.removed == 0) _ (length_none l.removed.items (vec_len l.removed) (omega (arith, l.removed.ok.0)) s.removed)
@@ -252,10 +252,10 @@ pass_all p [] f = refl
 pass_all p (x ∷ xs) f = and_both (p x) (list_all p xs) (f x (inl refl)) (pass_all p xs (λ y h. f y (inr h)))
 
 -- nothing is told exactly where the maps are alike
-pub told_alike : (layer key : Option (List ℕ)) (m n : Layers) (ls : List LayerChanges) → AreAllChanges layer key m n ls → (list_all is_same_layer ls ≡ true) ↔ AgreeAt layer m n
-told_alike layer key m n ls h = (
-  (λ e. all_alike layer key m n ls h layer refl (λ l there. told_same l (all_pass is_same_layer ls e l there))),
-  (λ alike. pass_all is_same_layer ls (λ l there. same_told l (alike_all layer key m n ls h alike l there))),
+pub if_alike : (layer key : Option (List ℕ)) (m n : Layers) (ls : List LayerChanges) → AreAllChanges layer key m n ls → (list_all is_same_layer ls ≡ true) ↔ AgreeAt layer m n
+if_alike layer key m n ls h = (
+  (λ e. all_alike layer key m n ls h layer refl (λ l there. if_same l (all_pass is_same_layer ls e l there))),
+  (λ alike. pass_all is_same_layer ls (λ l there. same_means l (alike_all layer key m n ls h alike l there))),
 )
 
 turned : (e : Bool) → not e ≡ false → e ≡ true
@@ -332,15 +332,15 @@ module _ (m n : Layers) (c : Comparison) (h : IsComparisonOf m n c) where
 
 -- ---- what is told of each pair
 
-pub record IsToldOf (c : Comparison) (key : Option (List ℕ)) (p : LayerPair) (l : LayerChanges) : Type 0 where
+pub record IsMeantOf (c : Comparison) (key : Option (List ℕ)) (p : LayerPair) (l : LayerChanges) : Type 0 where
   pub pair : l.layers ≡ p
   pub changes : (m n : Layers) (q : List ℕ) → IsComparisonOf m n c → IsPairOf c q p → AreChanges key (set.items (features_at m q)) (set.items (features_at n q)) l
 
-pub all_told : (layer key : Option (List ℕ)) (m n : Layers) (c : Comparison) → IsComparisonOf m n c → (ps : List LayerPair) (ls : List LayerChanges) → ArePairsAsked layer m n c ps →
-    Pairwise (IsToldOf c key) ps ls → AreAllChanges layer key m n ls
-all_told layer key m n c h ps ls a t = record { names = a.names; asked = a.asked; changes = go a.names ps ls a.pairs t }
+pub all_means : (layer key : Option (List ℕ)) (m n : Layers) (c : Comparison) → IsComparisonOf m n c → (ps : List LayerPair) (ls : List LayerChanges) → ArePairsAsked layer m n c ps →
+    Pairwise (IsMeantOf c key) ps ls → AreAllChanges layer key m n ls
+all_means layer key m n c h ps ls a t = record { names = a.names; asked = a.asked; changes = go a.names ps ls a.pairs t }
   where
-    go : (qs : List (List ℕ)) (ps : List LayerPair) (ls : List LayerChanges) → Pairwise (IsPairOf c) qs ps → Pairwise (IsToldOf c key) ps ls → Pairwise (AreChangesOf key m n) qs ls
+    go : (qs : List (List ℕ)) (ps : List LayerPair) (ls : List LayerChanges) → Pairwise (IsPairOf c) qs ps → Pairwise (IsMeantOf c key) ps ls → Pairwise (AreChangesOf key m n) qs ls
     go [] [] [] p t = tt
     go [] [] (l ∷ ls) p t = absurd t
     go [] (x ∷ ps) ls p t = absurd p
@@ -356,11 +356,11 @@ all_told layer key m n c h ps ls a t = record { names = a.names; asked = a.asked
     )
 
 -- one more of each
-pub one_told : {A B : Type 0} (T : A → B → Type 0) (xs : List A) (ys : List B) (x : A) (y : B) → Pairwise T xs ys → T x y → Pairwise T (xs ++ (x ∷ [])) (ys ++ (y ∷ []))
-one_told T [] [] x y p t = (t, tt)
-one_told T [] (w ∷ ys) x y p t = absurd p
-one_told T (v ∷ xs) [] x y p t = absurd p
-one_told T (v ∷ xs) (w ∷ ys) x y p t = (p.0, one_told T xs ys x y p.1 t)
+pub one_means : {A B : Type 0} (T : A → B → Type 0) (xs : List A) (ys : List B) (x : A) (y : B) → Pairwise T xs ys → T x y → Pairwise T (xs ++ (x ∷ [])) (ys ++ (y ∷ []))
+one_means T [] [] x y p t = (t, tt)
+one_means T [] (w ∷ ys) x y p t = absurd p
+one_means T (v ∷ xs) [] x y p t = absurd p
+one_means T (v ∷ xs) (w ∷ ys) x y p t = (p.0, one_means T xs ys x y p.1 t)
 
 -- what differs between the features of two layers, wherever they are a pair of a name
 abbrev pub TellsBy : Comparison → LayerPair → Option (List ℕ) → LayerDifference → Type 0
@@ -371,12 +371,12 @@ pub made_of : (c : Comparison) (p : LayerPair) (key : Option (List ℕ)) (d : La
     (m n : Layers) (q : List ℕ) → IsComparisonOf m n c → IsPairOf c q p → AreChanges key (set.items (features_at m q)) (set.items (features_at n q)) l
 made_of c p key d l is r a h m n q compared pair = record { difference = d; is = is m n q compared pair; removed = r; added = a; changed = h }
 
-pub one_more_told : {A B : Type 0} (T : A → B → Type 0) (xs : List A) (ys zs : List B) (i : ℕ) (d : A) (y : B) → Pairwise T (take i xs) ys → i < length xs → zs ≡ ys ++ (y ∷ []) → T (get_or xs i d) y →
+pub one_more_means : {A B : Type 0} (T : A → B → Type 0) (xs : List A) (ys zs : List B) (i : ℕ) (d : A) (y : B) → Pairwise T (take i xs) ys → i < length xs → zs ≡ ys ++ (y ∷ []) → T (get_or xs i d) y →
     Pairwise T (take (i + 1) xs) zs
-one_more_told T xs ys zs i d y told less grown t =
+one_more_means T xs ys zs i d y told less grown t =
     let e : i + 1 ≡ suc i = omega arith in
     subst (Pairwise T (take (i + 1) xs)) (sym grown)
-    (subst (λ l. Pairwise T l (ys ++ (y ∷ []))) (sym (ap (λ k. take k xs) e ∙ take-suc xs i d less)) (one_told T (take i xs) ys (get_or xs i d) y told t))
+    (subst (λ l. Pairwise T l (ys ++ (y ∷ []))) (sym (ap (λ k. take k xs) e ∙ take-suc xs i d less)) (one_means T (take i xs) ys (get_or xs i d) y told t))
 
 pub all_taken : {A B : Type 0} (T : A → B → Type 0) (xs us : List A) (ys : List B) (i : ℕ) → length xs ≤ i → xs ≡ us → Pairwise T (take i xs) ys → Pairwise T us ys
 all_taken T xs us ys i most e told = subst (λ l. Pairwise T l ys) (take_all i xs most ∙ e) told

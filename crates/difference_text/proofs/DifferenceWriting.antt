@@ -38,19 +38,19 @@ copied_some (Some x) = refl
 
 -- ---- the layers of a name
 
-abbrev pub told_with : Bool → LayerChanges → List ℕ → List Geom → List Geom → LayerReport
-told_with keyed l name gs hs = record { name = name; olds = gs; news = hs; keyed = keyed; changes = l }
+abbrev pub if_with : Bool → LayerChanges → List ℕ → List Geom → List Geom → LayerReport
+if_with keyed l name gs hs = record { name = name; olds = gs; news = hs; keyed = keyed; changes = l }
 
-pub view_told : (keyed : Bool) (old new : TopologyParts) (l : LayerChanges) {ls ks : List LayerParts} {a b : Option LayerParts} {name : List ℕ} {gs hs : List Geom} → ls ≡ old.layers → ks ≡ new.layers
+pub view_means : (keyed : Bool) (old new : TopologyParts) (l : LayerChanges) {ls ks : List LayerParts} {a b : Option LayerParts} {name : List ℕ} {gs hs : List Geom} → ls ≡ old.layers → ks ≡ new.layers
     → a ≡ layer_in ls l.layers.old → b ≡ layer_in ks l.layers.new → name ≡ layer_name a b → gs ≡ geometries_from ls l.layers.old → hs ≡ geometries_from ks l.layers.new
-    → told_with keyed l name gs hs ≡ layer_report keyed old new l
-view_told keyed old new l {ls} {ks} {a} {b} {name} {gs} {hs} olds news first second named of_old of_new =
+    → if_with keyed l name gs hs ≡ layer_report keyed old new l
+view_means keyed old new l {ls} {ks} {a} {b} {name} {gs} {hs} olds news first second named of_old of_new =
     let one : a ≡ layer_in old.layers l.layers.old = first ∙ ap (λ w. layer_in w l.layers.old) olds in
     let two : b ≡ layer_in new.layers l.layers.new = second ∙ ap (λ w. layer_in w l.layers.new) news in
     let title : name ≡ layer_name (layer_in old.layers l.layers.old) (layer_in new.layers l.layers.new) = named ∙ (λ i. layer_name (one i) (two i)) in
     let left : gs ≡ geometries_from old.layers l.layers.old = of_old ∙ ap (λ w. geometries_from w l.layers.old) olds in
     let right : hs ≡ geometries_from new.layers l.layers.new = of_new ∙ ap (λ w. geometries_from w l.layers.new) news in
-    λ i. told_with keyed l (title i) (left i) (right i)
+    λ i. if_with keyed l (title i) (left i) (right i)
 
 -- ---- lines
 

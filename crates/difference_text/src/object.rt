@@ -343,13 +343,13 @@ fn write_names<W: Sink>(
     let mut is_behind = false;
     let mut left = layers;
     while let Some((changes, after)) = left.split_first() {
-        let is_told = is_missing(is_added, changes);
+        let is_answered = is_missing(is_added, changes);
         let name = Then(If(is_behind, Text(b",")), Chars(view.layer(changes).name));
-        match If(is_told, name).write(sink) {
+        match If(is_answered, name).write(sink) {
             Ok(()) => left = after,
             Err(fault) => return Err(fault),
         }
-        is_behind = is_either(is_behind, is_told);
+        is_behind = is_either(is_behind, is_answered);
     }
     Ok(())
 }

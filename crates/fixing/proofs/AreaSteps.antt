@@ -45,9 +45,9 @@ wrapped_minus a b =
     ∙ ap (λ m. int_wrap w128 m) (sym (minus a b))
 
 -- the triangle of two positions, from two products
-pub cross_told : (p q ax ay bx by : ℤ) (a b : Pos) → FitsSigned w128 p → FitsSigned w128 q → p ≡ int_wrap w128 (ax *ℤ by) → q ≡ int_wrap w128 (bx *ℤ ay) →
+pub cross_means : (p q ax ay bx by : ℤ) (a b : Pos) → FitsSigned w128 p → FitsSigned w128 q → p ≡ int_wrap w128 (ax *ℤ by) → q ≡ int_wrap w128 (bx *ℤ ay) →
     ax ≡ a.x → ay ≡ a.y → bx ≡ b.x → by ≡ b.y → int_wrapping_sub w128 p q ≡ int_wrap w128 (cross a b)
-cross_told p q ax ay bx by a b f g e h k l m n =
+cross_means p q ax ay bx by a b f g e h k l m n =
     wrapping_sub_is w128 p q f g
     ∙ (λ i. int_wrap w128 ((e ∙ (λ j. int_wrap w128 (k j *ℤ n j))) i -ℤ (h ∙ (λ j. int_wrap w128 (m j *ℤ l j))) i))
     ∙ wrapped_minus (a.x *ℤ b.y) (b.x *ℤ a.y)

@@ -4,21 +4,21 @@ use Rattle.std.proofs.lemmas.Int.{to_z-of_z}
 use Rattle.std.proofs.lemmas.List.{take_all}
 use Rattle.std.proofs.lemmas.Bool.{cases_lt}
 use Rattle.grid.specs.declared.pos.Pos.{Pos}
-use Rattle.fixing.specs.Measures.{doubled, lies_begun, lies_in, spread}
+use Rattle.fixing.specs.Measures.{doubled, lies_started, lies_in, spread}
 use mir.Syntax.{w64, w128}
 
 -- a number that was passed
 pub passed : (x y : ℤ) → FitsSigned w128 x → x ≡ y → to_z w128 (of_z w128 x) ≡ y
 passed x y f e = to_z-of_z w128 x f ∙ e
 
-pub less_told : (x y u v : ℤ) (r : Bool) → r ≡ int_lt u v → u ≡ x → v ≡ y → r ≡ int_lt x y
-less_told x y u v r e p q = e ∙ (λ i. int_lt (p i) (q i))
+pub less_means : (x y u v : ℤ) (r : Bool) → r ≡ int_lt u v → u ≡ x → v ≡ y → r ≡ int_lt x y
+less_means x y u v r e p q = e ∙ (λ i. int_lt (p i) (q i))
 
-pub doubled_told : (t n m : ℤ) → FitsSigned w64 n → t ≡ doubled (to_z w64 (of_z w64 n)) → n ≡ m → t ≡ doubled m
-doubled_told t n m f e is = e ∙ ap doubled (to_z-of_z w64 n f ∙ is)
+pub doubled_means : (t n m : ℤ) → FitsSigned w64 n → t ≡ doubled (to_z w64 (of_z w64 n)) → n ≡ m → t ≡ doubled m
+doubled_means t n m f e is = e ∙ ap doubled (to_z-of_z w64 n f ∙ is)
 
-pub spread_told : (t a b c d p q r s : ℤ) → t ≡ spread a b c d → a ≡ p → b ≡ q → c ≡ r → d ≡ s → t ≡ spread p q r s
-spread_told t a b c d p q r s e f g h k = e ∙ (λ i. spread (f i) (g i) (h i) (k i))
+pub spread_means : (t a b c d p q r s : ℤ) → t ≡ spread a b c d → a ≡ p → b ≡ q → c ≡ r → d ≡ s → t ≡ spread p q r s
+spread_means t a b c d p q r s e f g h k = e ∙ (λ i. spread (f i) (g i) (h i) (k i))
 
 same_is : (s a b x y : Bool) → s ≡ cond a b (not b) → a ≡ x → b ≡ y → cond x y (not y) ≡ s
 same_is s a b x y e f g = sym (e ∙ (λ i. cond (f i) (g i) (not (g i))))
@@ -46,15 +46,15 @@ first_nine l n e = elim (cases_lt (length l) 9) [
 ]
 
 -- a ring without a position
-pub none_begun : (ring other begun : List Pos) (n : ℕ) → begun ≡ take n ring → n ≡ min (length ring) 9 → length begun ≡ 0 → false ≡ lies_in ring other
+pub none_started : (ring other begun : List Pos) (n : ℕ) → begun ≡ take n ring → n ≡ min (length ring) 9 → length begun ≡ 0 → false ≡ lies_in ring other
 unfolding lies_in
-none_begun ring other begun n e m z = go begun z ∙ ap (λ l. lies_begun l other) (e ∙ first_nine ring n m)
+none_started ring other begun n e m z = go begun z ∙ ap (λ l. lies_started l other) (e ∙ first_nine ring n m)
   where
-    go : (l : List Pos) → length l ≡ 0 → false ≡ lies_begun l other
+    go : (l : List Pos) → length l ≡ 0 → false ≡ lies_started l other
     go [] z = refl
     go (x ∷ l) z = absurd (omega arith)
 
 -- the same of what is counted
-pub begun_told : (ring other : List Pos) (r : Bool) → r ≡ lies_begun (take 9 ring) other → r ≡ lies_in ring other
+pub started_means : (ring other : List Pos) (r : Bool) → r ≡ lies_started (take 9 ring) other → r ≡ lies_in ring other
 unfolding lies_in
-begun_told ring other r e = e
+started_means ring other r e = e

@@ -76,8 +76,8 @@ abbrev pub Notes : (Pos → Option ℕ) → List Pos → Type 0
 Notes noted path = (k : ℕ) (p : Pos) → slice_get path k ≡ Some p → noted p ≡ Some k
 
 -- a note that the path bears out
-pub noted_place : (noted : Pos → Option ℕ) (path : List Pos) (p : Pos) (k : ℕ) → Notes noted path → slice_get path k ≡ Some p → Some k ≡ place_on p path
-noted_place noted path p k notes e = go (place_on p path) refl
+pub recorded_place : (noted : Pos → Option ℕ) (path : List Pos) (p : Pos) (k : ℕ) → Notes noted path → slice_get path k ≡ Some p → Some k ≡ place_on p path
+recorded_place noted path p k notes e = go (place_on p path) refl
   where
     go : (o : Option ℕ) → place_on p path ≡ o → Some k ≡ o
     go None f = absurd ((unplaced p path f).nowhere k e)
@@ -105,14 +105,14 @@ get_pushed (q ∷ l) n zero p e = inl e
 get_pushed (q ∷ l) n (suc k) p e = elim (get_pushed l n k p e) [ inl h ↦ inl h | inr h ↦ inr (ap (λ j. suc j) h.0, h.1) ]
 
 -- the notes of a path that is cut short
-pub notes_cut : (noted : Pos → Option ℕ) (path shorter : List Pos) (n : ℕ) → shorter ≡ take n path → Notes noted path → Notes noted shorter
-notes_cut noted path shorter n e notes k p h = notes k p (get_taken n path k p (subst (λ w. slice_get w k ≡ Some p) e h))
+pub records_cut : (noted : Pos → Option ℕ) (path shorter : List Pos) (n : ℕ) → shorter ≡ take n path → Notes noted path → Notes noted shorter
+records_cut noted path shorter n e notes k p h = notes k p (get_taken n path k p (subst (λ w. slice_get w k ≡ Some p) e h))
 
 -- the notes of a path with one position more
-pub notes_more : (noted more : Pos → Option ℕ) (path longer : List Pos) (next : Pos) (n : ℕ) → place_on next path ≡ None →
+pub records_more : (noted more : Pos → Option ℕ) (path longer : List Pos) (next : Pos) (n : ℕ) → place_on next path ≡ None →
     ((q : Pos) → more q ≡ cond (is_eq (position_cmp next q)) (Some n) (noted q)) → n ≡ length path → longer ≡ path ++ (next ∷ []) →
     Notes noted path → Notes more longer
-notes_more noted more path longer next n none with_next count made notes k p h =
+records_more noted more path longer next n none with_next count made notes k p h =
     elim (get_pushed path next k p (subst (λ w. slice_get w k ≡ Some p) made h)) [
       | inl e ↦
           with_next p
@@ -151,15 +151,15 @@ none_past (q ∷ l) zero p n h = omega arith
 none_past (q ∷ l) (suc k) p n h = none_past l k p (omega (arith, n)) h
 
 -- the only place that is noted is past the path, or another stands there
-pub other_place : (noted : Pos → Option ℕ) (path : List Pos) (p : Pos) (k : ℕ) → Notes noted path → Some k ≡ noted p → ¬ (slice_get path k ≡ Some p) → None ≡ place_on p path
-other_place noted path p k notes e n =
+pub other_index : (noted : Pos → Option ℕ) (path : List Pos) (p : Pos) (k : ℕ) → Notes noted path → Some k ≡ noted p → ¬ (slice_get path k ≡ Some p) → None ≡ place_on p path
+other_index noted path p k notes e n =
     no_place noted path p notes (λ j f h. n (let s : j ≡ k = cc in subst (λ i. slice_get path i ≡ Some p) s h))
 
 pub place_past : (noted : Pos → Option ℕ) (path seen : List Pos) (p : Pos) (k : ℕ) → Notes noted path → Some k ≡ noted p → seen ≡ path → false ≡ nat_lt k (length seen) →
     None ≡ place_on p path
 place_past noted path seen p k notes e is b =
     let n = ltb-false k (length seen) (sym b) in
-    other_place noted path p k notes e (none_past path k p (subst (λ w. length w ≤ k) is n))
+    other_index noted path p k notes e (none_past path k p (subst (λ w. length w ≤ k) is n))
 
 -- what stands at a place of the path
 pub stands : (path seen : List Pos) (k : ℕ) (met : Pos) → seen ≡ path → true ≡ nat_lt k (length seen) → met ≡ get_or seen k met → slice_get path k ≡ Some met
@@ -170,20 +170,20 @@ stands path seen k met is b e =
 pub place_other : (noted : Pos → Option ℕ) (path : List Pos) (p met : Pos) (k : ℕ) → Notes noted path → Some k ≡ noted p → slice_get path k ≡ Some met →
     position_eq met p ≡ false → None ≡ place_on p path
 place_other noted path p met k notes e at f =
-    other_place noted path p k notes e (λ h. let s : met ≡ p = cc in true_false (position_eq met p) (true_position met p s) f)
+    other_index noted path p k notes e (λ h. let s : met ≡ p = cc in true_false (position_eq met p) (true_position met p s) f)
 
 pub place_same : (noted : Pos → Option ℕ) (path : List Pos) (p met : Pos) (k : ℕ) → Notes noted path → slice_get path k ≡ Some met → position_eq met p ≡ true →
     Some k ≡ place_on p path
-place_same noted path p met k notes at t = noted_place noted path p k notes (at ∙ ap Some (position_true met p t))
+place_same noted path p met k notes at t = recorded_place noted path p k notes (at ∙ ap Some (position_true met p t))
 
 -- on to a position that the path has, where the steps may fail
-pub cut_told : {T E : Type 0} (r : Result T E) (loops more : List (List Pos)) (path shorter : List Pos) (p : Pos) (k : ℕ) → Some k ≡ place_on p path →
+pub cut_means : {T E : Type 0} (r : Result T E) (loops more : List (List Pos)) (path shorter : List Pos) (p : Pos) (k : ℕ) → Some k ≡ place_on p path →
     OnOk r (more ≡ loops ++ loop_kept (drop k path ++ (p ∷ []))) → OnOk r (shorter ≡ take (k + 1) path) →
     OnOk r ((l : List Pos) → more ++ loops_on shorter l ≡ loops ++ loops_on path (p ∷ l))
-cut_told (Ok u) loops more path shorter p k e cut left = λ l. step_cut loops more path shorter l p k e cut left
-cut_told (Err x) loops more path shorter p k e cut left = tt
+cut_means (Ok u) loops more path shorter p k e cut left = λ l. step_cut loops more path shorter l p k e cut left
+cut_means (Err x) loops more path shorter p k e cut left = tt
 
-pub notes_told : {T E : Type 0} (r : Result T E) (noted now : Pos → Option ℕ) (path shorter : List Pos) (n : ℕ) → ((q : Pos) → now q ≡ noted q) →
+pub records_means : {T E : Type 0} (r : Result T E) (noted now : Pos → Option ℕ) (path shorter : List Pos) (n : ℕ) → ((q : Pos) → now q ≡ noted q) →
     OnOk r (shorter ≡ take n path) → Notes noted path → OnOk r (Notes now shorter)
-notes_told (Ok u) noted now path shorter n same e notes = λ k p h. same p ∙ notes_cut noted path shorter n e notes k p h
-notes_told (Err x) noted now path shorter n same e notes = tt
+records_means (Ok u) noted now path shorter n same e notes = λ k p h. same p ∙ records_cut noted path shorter n e notes k p h
+records_means (Err x) noted now path shorter n same e notes = tt

@@ -8,11 +8,11 @@ use Rattle.fixing.specs.Polygons.{home_of, is_home, put_ring}
 use Rattle.fixing.specs.Seen.{polygons_in}
 
 -- a ring put into the polygon at a place
-pub put_told : (ps : List (Vec (List Pos) Global)) (k : ℕ) (d new : Vec (List Pos) Global) (ring : List Pos) → k < length ps →
+pub put_means : (ps : List (Vec (List Pos) Global)) (k : ℕ) (d new : Vec (List Pos) Global) (ring : List Pos) → k < length ps →
     new.items ≡ (get_or ps k d).items ++ (ring ∷ []) → polygons_in (set ps k new) ≡ put_ring k ring (polygons_in ps)
-put_told [] k d new ring h e = absurd (omega arith)
-put_told (p ∷ ps) zero d new ring h e = ap (λ w. w ∷ polygons_in ps) e
-put_told (p ∷ ps) (suc k) d new ring h e = ap (λ w. p.items ∷ w) (put_told ps k d new ring (omega (arith, h)) e)
+put_means [] k d new ring h e = absurd (omega arith)
+put_means (p ∷ ps) zero d new ring h e = ap (λ w. w ∷ polygons_in ps) e
+put_means (p ∷ ps) (suc k) d new ring h e = ap (λ w. p.items ∷ w) (put_means ps k d new ring (omega (arith, h)) e)
 
 -- past the last
 pub put_past : (ps : List (Vec (List Pos) Global)) (k : ℕ) (ring : List Pos) → length ps ≤ k → polygons_in ps ≡ put_ring k ring (polygons_in ps)

@@ -60,26 +60,26 @@ unfolding runs_of
 begun used ended run here none empty one l = λ i. empty i ++ runs_on (λ q. none q i) (one i) here l
 
 -- on behind a segment that was used before, where the steps may fail
-pub used_told : {T E : Type 0} (r : Result T E) (used more : PositionPair → Bool) (s : PositionPair) (here now next : Pos) (is : s ≡ pair_of here next)
+pub used_means : {T E : Type 0} (r : Result T E) (used more : PositionPair → Bool) (s : PositionPair) (here now next : Pos) (is : s ≡ pair_of here next)
     (with_s : (q : PositionPair) → more q ≡ or_used s used q) (done ended : List (List Pos)) (run begun : List Pos) (b : Bool) → now ≡ next → b ≡ not (used s) → b ≡ false →
     OnOk r (ended ≡ done ++ run_kept run) → OnOk r (begun ≡ next ∷ []) →
     OnOk r ((l : List Pos) → ended ++ runs_on more begun now l ≡ done ++ runs_on used run here (next ∷ l))
-used_told (Ok u) used more s here now next is with_s done ended run begun b e new f cut made =
+used_means (Ok u) used more s here now next is with_s done ended run begun b e new f cut made =
     λ l. ap (λ p. ended ++ runs_on more begun p l) e ∙ step_used used more s here next is with_s done ended run begun l b new f cut made
-used_told (Err x) used more s here now next is with_s done ended run begun b e new f cut made = tt
+used_means (Err x) used more s here now next is with_s done ended run begun b e new f cut made = tt
 
 -- the runs where the way is at its end
-pub all_told : {T E : Type 0} (r : Result T E) (seen : T → List (List Pos)) (left : List Pos → List (List Pos)) (c others whole : List Pos) (i : ℕ) (first : Pos) →
+pub all_means : {T E : Type 0} (r : Result T E) (seen : T → List (List Pos)) (left : List Pos → List (List Pos)) (c others whole : List Pos) (i : ℕ) (first : Pos) →
     IfOk r (λ runs. seen runs ≡ left []) → length others ≤ i → left (drop i others) ≡ runs_of (first ∷ others) → c ≡ first ∷ others → c ≡ whole →
     IfOk r (λ runs. seen runs ≡ runs_of whole)
-all_told (Ok runs) seen left c others whole i first told h invariant parts is =
+all_means (Ok runs) seen left c others whole i first told h invariant parts is =
     told ∙ sym (ap left (drop_all i others h)) ∙ invariant ∙ ap runs_of (sym parts ∙ is)
-all_told (Err e) seen left c others whole i first told h invariant parts is = tt
+all_means (Err e) seen left c others whole i first told h invariant parts is = tt
 
 -- no position, no run
-pub none_told : (found : List (List Pos)) (c whole : List Pos) → found ≡ [] → length c ≡ 0 → c ≡ whole → found ≡ runs_of whole
+pub none_means : (found : List (List Pos)) (c whole : List Pos) → found ≡ [] → length c ≡ 0 → c ≡ whole → found ≡ runs_of whole
 unfolding runs_of
-none_told found c whole e n is = e ∙ go c n ∙ ap runs_of is
+none_means found c whole e n is = e ∙ go c n ∙ ap runs_of is
   where
     go : (c : List Pos) → length c ≡ 0 → [] ≡ runs_of c
     go [] n = refl

@@ -36,10 +36,10 @@ abbrev pub told : ℕ → Fixes → List FeatureFixes
 told n f = cond (is_any f) (record { feature = n; fixes = f } ∷ []) []
 
 -- what was fixed of each feature, those of which anything was, numbered from n
-abbrev pub told_from : ℕ → List Fixes → List FeatureFixes
-told_from n [] = []
-told_from n (f ∷ l) = told n f ++ told_from (one_more n) l
+abbrev pub if_from : ℕ → List Fixes → List FeatureFixes
+if_from n [] = []
+if_from n (f ∷ l) = told n f ++ if_from (one_more n) l
 
 -- these are the sum of what was fixed of each feature, and the list of it
 abbrev pub AreCounted : Fixes → List FeatureFixes → List Fixes → Type 0
-AreCounted sum list each = (sum ≡ total_from no_fixes each) × (list ≡ told_from 0 each)
+AreCounted sum list each = (sum ≡ total_from no_fixes each) × (list ≡ if_from 0 each)

@@ -69,13 +69,13 @@ mostly_inside inside outside other here (p ∷ l) =
     mostly_inside (cond (is_inside other (middle here p)) (one_more inside) inside) (cond (is_inside other (middle here p)) outside (one_more outside)) other p l
 
 -- whether a ring begun so lies in another
-abbrev pub lies_begun : List Pos → List Pos → Bool
-lies_begun [] other = false
-lies_begun (x ∷ l) other = mostly_inside 0 0 other x l
+abbrev pub lies_started : List Pos → List Pos → Bool
+lies_started [] other = false
+lies_started (x ∷ l) other = mostly_inside 0 0 other x l
 
 -- whether a ring lies in another: whether more of the middles of its first eight segments do than not
 unfoldable pub lies_in : List Pos → List Pos → Bool
-lies_in ring other = lies_begun (take 9 ring) other
+lies_in ring other = lies_started (take 9 ring) other
 
 -- whether a ring turns clockwise
 abbrev pub turns_right : List Pos → Bool

@@ -7,8 +7,8 @@ use Rattle.fixing.specs.Loops.{loops_on}
 use Rattle.fixing.specs.declared.loops.LoopWalk.{LoopWalk}
 
 -- each position of the path is noted with its place there
-abbrev pub IsNoted : LoopWalk → Type 0
-IsNoted walk = (k : ℕ) (p : Pos) → slice_get walk.path.items k ≡ Some p → get position_cmp walk.places p ≡ Some k
+abbrev pub IsRecorded : LoopWalk → Type 0
+IsRecorded walk = (k : ℕ) (p : Pos) → slice_get walk.path.items k ≡ Some p → get position_cmp walk.places p ≡ Some k
 
 -- the loops, where the walk goes on along a list
 abbrev pub loops_left : LoopWalk → List Pos → List (List Pos)

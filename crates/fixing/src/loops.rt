@@ -1,6 +1,6 @@
 //! Rings that use a segment twice, cut into loops.
 ghost use Rattle.fixing.specs.Loops.{loop_kept, loops_of as loops_in, place_on};
-ghost use Rattle.fixing.specs.Walks.{IsNoted, loops_left};
+ghost use Rattle.fixing.specs.Walks.{IsRecorded, loops_left};
 ghost use Rattle.grid.specs.declared.pos.Pos.{Pos};
 ghost use Rattle.std.specs.Prelude.{◌≡◌, ◌+◌, ◌<◌, ◌∷◌, ◌++◌, [], IfOk, OnOk, List, drop, take, vec_len};
 
@@ -21,7 +21,7 @@ struct LoopWalk {
 impl LoopWalk {
     /// The walk that has not begun.
     fn new(alloc: Global) -> LoopWalk
-        ensures noted { IsNoted result }
+        ensures noted { IsRecorded result }
         ensures left { (l : List Pos) → loops_left result l ≡ loops_in l }
     {
         LoopWalk {
@@ -33,7 +33,7 @@ impl LoopWalk {
 
     /// The place of a position on the path.
     fn place(&self, position: Pos) -> Option<usize>
-        requires { IsNoted self.now }
+        requires { IsRecorded self.now }
         ensures { result ≡ place_on position self.now.path.items }
     {
         let Some(place) = self.places.get(&position) else {
@@ -63,8 +63,8 @@ impl LoopWalk {
 
     /// Goes on to a position. Where the path has it, the loop since then is cut off.
     fn step(&mut self, alloc: Global, position: Pos) -> Result<(), AllocError>
-        requires { IsNoted self.old }
-        ensures noted { OnOk result (IsNoted self.new) }
+        requires { IsRecorded self.old }
+        ensures noted { OnOk result (IsRecorded self.new) }
         ensures left { OnOk result ((l : List Pos) → loops_left self.new l ≡ loops_left self.old (position ∷ l)) }
     {
         if let Some(place) = self.place(position) {

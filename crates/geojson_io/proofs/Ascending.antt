@@ -73,5 +73,5 @@ module _ (t : Transform) where
   ascending_faults bytes = ascending_text (geojson_faults t) (document bytes) ascending_geojson
 
 -- what was told is in order, where it is all
-pub told_in_order : (t : Transform) (bytes : List ℕ) (qs : List Pair) → qs ≡ faults_of_text t bytes → IsAscending qs
-told_in_order t bytes qs is = subst IsAscending (sym is) (ascending_faults t bytes)
+pub if_in_order : (t : Transform) (bytes : List ℕ) (qs : List Pair) → qs ≡ faults_of_text t bytes → IsAscending qs
+if_in_order t bytes qs is = subst IsAscending (sym is) (ascending_faults t bytes)

@@ -95,7 +95,7 @@ fn judge_text(alloc: Global, bytes: &[u8], grid: &Grid) -> Result<Vec<Fault>, Ou
 ///
 /// # Errors
 /// Where memory is refused.
-#[tactic(auto, using(crate::proofs::Ascending::told_in_order))]
+#[tactic(auto, using(crate::proofs::Ascending::if_in_order))]
 pub fn faults(alloc: Global, bytes: &[u8], grid: &Grid) -> Result<Vec<Fault>, OutOfMemory>
     ensures all { IfOk result (λ fs. pairs_of fs.items ≡ faults_of_text grid.now bytes.now) }
     ensures sorted { IfOk result (λ fs. IsAscending (pairs_of fs.items)) }

@@ -5,7 +5,7 @@ use Rattle.std.specs.List.Sorted.{IsSorted}
 use Rattle.std.specs.Ordering.{is_gt}
 use Rattle.grid.specs.declared.pos.Pos.{Pos}
 use Rattle.theory.specs.Lists.{Has}
-use Rattle.lines.specs.ByVertex.{StandByVertex, count_at}
+use Rattle.lines.specs.ByVertex.{AreByVertex, count_at}
 use Rattle.lines.specs.Pairs.{position_eq}
 use Rattle.lines.specs.Positions.{position_total}
 use Rattle.lines.specs.Turned.{position_cmp}
@@ -24,7 +24,7 @@ module _ {A : Type 0} (at : A → Pos) where
       go false f on i = absurd i
 
   -- those behind stand at others, where none is at a lesser vertex than v
-  pub behind_at : (v : Pos) (l : List A) → ((x : A) → Has x l → is_gt (position_cmp v (at x)) ≡ false) → StandByVertex at l →
+  pub behind_at : (v : Pos) (l : List A) → ((x : A) → Has x l → is_gt (position_cmp v (at x)) ≡ false) → AreByVertex at l →
       (x : A) → Has x (drop (count_at at v l) l) → ¬ (at x ≡ v)
   behind_at v [] up g x h = absurd h
   behind_at v (e ∷ l) up g x h = go (position_eq (at e) v) refl (behind_at v l (λ y k. up y (inr k)) g.1 x) h
@@ -40,13 +40,13 @@ module _ {A : Type 0} (at : A → Pos) where
       go true f on i = on i
       go false f on i = not_here f i
 
-  pub stand_behind : (xs ys : List A) → StandByVertex at (xs ++ ys) → StandByVertex at ys
-  stand_behind [] ys g = g
-  stand_behind (x ∷ xs) ys g = stand_behind xs ys g.1
+  pub are_behind : (xs ys : List A) → AreByVertex at (xs ++ ys) → AreByVertex at ys
+  are_behind [] ys g = g
+  are_behind (x ∷ xs) ys g = are_behind xs ys g.1
 
-  pub sorted_stand : (l : List A) → IsSorted (λ x y. position_cmp (at x) (at y)) l → StandByVertex at l
-  sorted_stand l s = go l (up_from_sorted (λ x y. position_cmp (at x) (at y)) (on_total at position_total) l s)
+  pub sorted_hold : (l : List A) → IsSorted (λ x y. position_cmp (at x) (at y)) l → AreByVertex at l
+  sorted_hold l s = go l (up_from_sorted (λ x y. position_cmp (at x) (at y)) (on_total at position_total) l s)
     where
-      go : (l : List A) → Up (λ x y. position_cmp (at x) (at y)) l → StandByVertex at l
+      go : (l : List A) → Up (λ x y. position_cmp (at x) (at y)) l → AreByVertex at l
       go [] u = tt
       go (x ∷ l) u = (u.0, go l u.1)

@@ -29,12 +29,12 @@ last_get x [] = refl
 last_get x (y ∷ l) = last_get y l
 
 -- whether the first and the last are equal, as the code compares them
-pub closes_told : (l : List Pos) (a b : Option (Bor Pos)) (r : Bool) → option_copied a ≡ slice_get l 0 → option_copied b ≡ slice_get l (length l - 1) →
+pub closes_means : (l : List Pos) (a b : Option (Bor Pos)) (r : Bool) → option_copied a ≡ slice_get l 0 → option_copied b ≡ slice_get l (length l - 1) →
     r ≡ option_eq (λ x y. pos_eq.eq-value.it x.now y.now) a b → r ≡ is_closed position_cmp l
-closes_told [] None None r p q e = e
-closes_told [] None (Some b) r p q e = absurd cc
-closes_told [] (Some a) b r p q e = absurd cc
-closes_told (x ∷ l) a b r p q e = go a b p (q ∙ ap (slice_get (x ∷ l)) k ∙ last_get x l) e
+closes_means [] None None r p q e = e
+closes_means [] None (Some b) r p q e = absurd cc
+closes_means [] (Some a) b r p q e = absurd cc
+closes_means (x ∷ l) a b r p q e = go a b p (q ∙ ap (slice_get (x ∷ l)) k ∙ last_get x l) e
   where
     k : length (x ∷ l) - 1 ≡ length l
     k = omega arith
@@ -79,9 +79,9 @@ module _ (l c : List Pos) (e : c ≡ collapsed position_cmp l) where
   as_line = ap (collapsed_line_fault position_cmp) (sym e)
 
   -- whether it is too short, and whether a segment stands twice, tell the fault
-  pub line_told : (short again : Bool) → short ≡ is_short c → again ≡ repeats position_cmp c →
+  pub line_says : (short again : Bool) → short ≡ is_short c → again ≡ repeats position_cmp c →
       line_fault position_cmp l ≡ cond short (Some TooShort) (cond again (Some Revisit) None)
-  line_told short again p q =
+  line_says short again p q =
       as_line ∙ either (nat_lt (length c) 2) (is_closed position_cmp c && nat_lt (length c) 4) (Some TooShort) (cond (repeats position_cmp c) (Some Revisit) None)
       ∙ rw (p, q) refl
     where
@@ -104,9 +104,9 @@ module _ (l c : List Pos) (e : c ≡ collapsed position_cmp l) where
       go (x ∷ d) n = absurd (omega arith)
 
   -- where the list is not empty
-  pub ring_told : 1 ≤ length c → (b d r : Bool) → b ≡ is_closed position_cmp c → d ≡ nat_lt (length c) 4 → r ≡ repeats position_cmp c →
+  pub ring_says : 1 ≤ length c → (b d r : Bool) → b ≡ is_closed position_cmp c → d ≡ nat_lt (length c) 4 → r ≡ repeats position_cmp c →
       ring_fault position_cmp l ≡ cond (not b) (Some NotClosed) (cond d (Some TooShort) (cond r (Some Revisit) None))
-  ring_told n b d r p q s = as_ring ∙ go c n b d r p q s
+  ring_says n b d r p q s = as_ring ∙ go c n b d r p q s
     where
       go : (c : List Pos) → 1 ≤ length c → (b d r : Bool) → b ≡ is_closed position_cmp c → d ≡ nat_lt (length c) 4 → r ≡ repeats position_cmp c →
           collapsed_ring_fault position_cmp c ≡ cond (not b) (Some NotClosed) (cond d (Some TooShort) (cond r (Some Revisit) None))
@@ -118,16 +118,16 @@ module _ (l c : List Pos) (e : c ≡ collapsed position_cmp l) where
           λ i. cond (not (p' i)) (Some NotClosed) (cond (q' i) (Some TooShort) (cond (s' i) (Some Revisit) None))
 
   pub ring_open : 1 ≤ length c → false ≡ is_closed position_cmp c → ring_fault position_cmp l ≡ Some NotClosed
-  ring_open n p = ring_told n false (nat_lt (length c) 4) (repeats position_cmp c) p refl refl
+  ring_open n p = ring_says n false (nat_lt (length c) 4) (repeats position_cmp c) p refl refl
 
   pub ring_short : 1 ≤ length c → true ≡ is_closed position_cmp c → length c < 4 → ring_fault position_cmp l ≡ Some TooShort
-  ring_short n p m = ring_told n true true (repeats position_cmp c) p (sym (small (length c) 4 m)) refl
+  ring_short n p m = ring_says n true true (repeats position_cmp c) p (sym (small (length c) 4 m)) refl
 
   pub ring_again : true ≡ is_closed position_cmp c → 4 ≤ length c → true ≡ repeats position_cmp c → ring_fault position_cmp l ≡ Some Revisit
-  ring_again p m s = ring_told (omega arith) true false true p (sym (large (length c) 4 m)) s
+  ring_again p m s = ring_says (omega arith) true false true p (sym (large (length c) 4 m)) s
 
   pub ring_good : true ≡ is_closed position_cmp c → 4 ≤ length c → false ≡ repeats position_cmp c → ring_fault position_cmp l ≡ None
-  ring_good p m s = ring_told (omega arith) true false false p (sym (large (length c) 4 m)) s
+  ring_good p m s = ring_says (omega arith) true false false p (sym (large (length c) 4 m)) s
 
 -- a closed list without its last
 take_closed : {V : Type 0} (f : List V) → take (length (closed f) - 1) (closed f) ≡ f

@@ -137,18 +137,18 @@ module _ {X : Type 0} (R : X → X → Ordering) (o : IsTotalOrder R) (same : (x
 
   -- where a test tells which items are equal, equal neighbours of a sorted list tell whether one stands twice in it
   module _ (eq : X → X → Bool) (equals : (x y : X) → eq x y ≡ true → x ≡ y) (equal : (x y : X) → x ≡ y → eq x y ≡ true) where
-    told_from : (x : X) (l : List X) → equal_from eq x l ≡ true → EqualFrom x l
-    told_from x [] e = absurd cc
-    told_from x (y ∷ l) e = go (eq y x) refl e (told_from y l)
+    if_from : (x : X) (l : List X) → equal_from eq x l ≡ true → EqualFrom x l
+    if_from x [] e = absurd cc
+    if_from x (y ∷ l) e = go (eq y x) refl e (if_from y l)
       where
         go : (b : Bool) → eq y x ≡ b → cond b true (equal_from eq y l) ≡ true → (equal_from eq y l ≡ true → EqualFrom y l) → EqualFrom x (y ∷ l)
         go true p e f = inl (equals y x p)
         go false p e f = inr (f e)
 
-    from_told : (x : X) (l : List X) → EqualFrom x l → equal_from eq x l ≡ true
-    from_told x [] h = absurd h
-    from_told x (y ∷ l) (inl e) = ap (λ b. cond b true (equal_from eq y l)) (equal y x e)
-    from_told x (y ∷ l) (inr h) = go (eq y x) (from_told y l h)
+    from_means : (x : X) (l : List X) → EqualFrom x l → equal_from eq x l ≡ true
+    from_means x [] h = absurd h
+    from_means x (y ∷ l) (inl e) = ap (λ b. cond b true (equal_from eq y l)) (equal y x e)
+    from_means x (y ∷ l) (inr h) = go (eq y x) (from_means y l h)
       where
         go : (b : Bool) → equal_from eq y l ≡ true → cond b true (equal_from eq y l) ≡ true
         go true e = refl
@@ -156,8 +156,8 @@ module _ {X : Type 0} (R : X → X → Ordering) (o : IsTotalOrder R) (same : (x
 
     pub neighbours_doubled : (l : List X) → equal_neighbours eq l ≡ true → Doubled l
     neighbours_doubled [] e = absurd cc
-    neighbours_doubled (x ∷ l) e = doubled_from_equal x l (told_from x l e)
+    neighbours_doubled (x ∷ l) e = doubled_from_equal x l (if_from x l e)
 
     pub doubled_neighbours : (l : List X) → IsSorted R l → Doubled l → equal_neighbours eq l ≡ true
     doubled_neighbours [] s h = absurd h
-    doubled_neighbours (x ∷ l) s h = from_told x l (equal_from_doubled x l (up_from_sorted R o (x ∷ l) s) h)
+    doubled_neighbours (x ∷ l) s h = from_means x l (equal_from_doubled x l (up_from_sorted R o (x ∷ l) s) h)

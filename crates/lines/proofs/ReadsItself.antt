@@ -21,7 +21,7 @@ use Rattle.lines.specs.declared.ring.Ring as the_ring
 use Rattle.lines.proofs.Codes.{large}
 use Rattle.lines.proofs.Least.{least_is}
 use Rattle.lines.specs.Positions.{position_total, position_same}
-use Rattle.lines.proofs.Trails.{line_exact, once_told, trail_once}
+use Rattle.lines.proofs.Trails.{line_exact, once_means, trail_once}
 
 -- a closed list without its last vertex
 pub opened_closed : {V : Type 0} (r : List V) → opened (closed r) ≡ r
@@ -54,7 +54,7 @@ module _ {V : Type 0} (cmp : V → V → Ordering) (o : IsTotalOrder cmp) (same 
       rw (
         equal-same_vertex cmp o same x _ (sym (last-snoc x x l)),
         large (length (closed (x ∷ l))) 4 (omega (arith, n, length-append l (x ∷ []))),
-        once_told cmp o same (closed (x ∷ l)) (trail_once (closed (x ∷ l)) k.once),
+        once_means cmp o same (closed (x ∷ l)) (trail_once (closed (x ∷ l)) k.once),
       ) refl
 
   -- the closed list of a ring has no fault

@@ -56,7 +56,7 @@ pub record IsGoneOver (w : VisitedVertices) (ends : List Pos) (gone : List Posit
   pub met : (s : PositionPair) → Has s gone → OfBoth (λ p. may_hold w.met p ≡ true) s
   pub here : may_hold w.met w.here ≡ true
   pub again : (s : PositionPair) → Has s gone → IsEnd w.here s → (w.again ≡ true) ⊎ (s ≡ pair_of w.before w.here)
-  pub noted : (s : PositionPair) → Twice s gone → OfBoth (λ p. Has p ends) s
+  pub recorded : (s : PositionPair) → Twice s gone → OfBoth (λ p. Has p ends) s
 
 -- the segments of all positions are those gone, and those from here over what is left
 abbrev pub IsGone : VisitedVertices → List Pos → List Pos → List Pos → Type 0
@@ -71,7 +71,7 @@ none_gone w all others first e h m = (
     met = λ s k. absurd k;
     here = subst (λ p. may_hold w.met p ≡ true) (sym h) m;
     again = λ s k q. absurd k;
-    noted = λ s k. absurd k;
+    recorded = λ s k. absurd k;
   },
 )
 
@@ -87,11 +87,11 @@ twice_last v x (y ∷ l) (inl h) = elim (Has-append v l (x ∷ []) h.1) [
 twice_last v x (y ∷ l) (inr h) = elim (twice_last v x l h) [ inl t ↦ inl (t.0, inr t.1) | inr k ↦ inr (inr k) ]
 
 -- a segment from here that was gone before is told as retraced
-retraced_told : (old new : VisitedVertices) (ends : List Pos) (gone : List PositionPair) (next : Pos) (b : Bool) → IsStep next b old new → IsGoneOver old ends gone →
+retraced_means : (old new : VisitedVertices) (ends : List Pos) (gone : List PositionPair) (next : Pos) (b : Bool) → IsStep next b old new → IsGoneOver old ends gone →
     Has (pair_of old.here next) gone → b ≡ true
-retraced_told old new ends gone next b step before h =
+retraced_means old new ends gone next b step before h =
     let two = given_both (λ p. may_hold old.met p ≡ true) old.here next (before.met (pair_of old.here next) h) in
-    step.told two.1 (elim (before.again (pair_of old.here next) h (ends_are old.here next).0) [
+    step.meant two.1 (elim (before.again (pair_of old.here next) h (ends_are old.here next).0) [
       | inl a ↦ inl a
       | inr e ↦ inr (elim (pair_same old.here next old.before old.here e) [
         | inl q ↦ q.1 ∙ q.0
@@ -102,7 +102,7 @@ retraced_told old new ends gone next b step before h =
 -- a step, where both ends of its segment are noted if that was gone before
 module _ (old new : VisitedVertices) (ends more : List Pos) (gone : List PositionPair) (next : Pos) (b : Bool) (step : IsStep next b old new) (before : IsGoneOver old ends gone)
     (kept : (p : Pos) → Has p ends → Has p more)
-    (noted : Has (pair_of old.here next) gone → Has old.here more × Has next more) where
+    (recorded : Has (pair_of old.here next) gone → Has old.here more × Has next more) where
   met_next : (s : PositionPair) → Has s (gone ++ (pair_of old.here next ∷ [])) → OfBoth (λ p. may_hold new.met p ≡ true) s
   met_next s h = elim (Has-append s gone (pair_of old.here next ∷ []) h) [
     | inl k ↦ let t = before.met s k in (step.met s.lesser t.0, step.met s.greater t.1)
@@ -118,11 +118,11 @@ module _ (old new : VisitedVertices) (ends more : List Pos) (gone : List Positio
     | inr (inr z) ↦ absurd z
   ]
 
-  noted_next : (s : PositionPair) → Twice s (gone ++ (pair_of old.here next ∷ [])) → OfBoth (λ p. Has p more) s
-  noted_next s h = elim (twice_last s (pair_of old.here next) gone h) [
-    | inr k ↦ let t = before.noted s k in (kept s.lesser t.0, kept s.greater t.1)
+  recorded_next : (s : PositionPair) → Twice s (gone ++ (pair_of old.here next ∷ [])) → OfBoth (λ p. Has p more) s
+  recorded_next s h = elim (twice_last s (pair_of old.here next) gone h) [
+    | inr k ↦ let t = before.recorded s k in (kept s.lesser t.0, kept s.greater t.1)
     | inl k ↦ subst (OfBoth (λ p. Has p more)) (sym k.0)
-        (let t = noted (subst (λ u. Has u gone) k.0 k.1) in both_given (λ p. Has p more) old.here next t.0 t.1)
+        (let t = recorded (subst (λ u. Has u gone) k.0 k.1) in both_given (λ p. Has p more) old.here next t.0 t.1)
   ]
 
   over_next : IsGoneOver new more (gone ++ (pair_of old.here next ∷ []))
@@ -130,26 +130,26 @@ module _ (old new : VisitedVertices) (ends more : List Pos) (gone : List Positio
     met = met_next;
     here = subst (λ p. may_hold new.met p ≡ true) (sym step.here) step.marked;
     again = again_next;
-    noted = noted_next;
+    recorded = recorded_next;
   }
 
 gone_next : (old new : VisitedVertices) (ends more all others : List Pos) (i : ℕ) (next : Pos) (b : Bool) → i < length others → next ≡ get_or others i next →
     IsStep next b old new → ((p : Pos) → Has p ends → Has p more) →
     ((gone : List PositionPair) → IsGoneOver old ends gone → Has (pair_of old.here next) gone → Has old.here more × Has next more) →
     IsGone old ends all (drop i others) → IsGone new more all (drop (i + 1) others)
-gone_next old new ends more all others i next b h e step kept noted (gone, parted, over) = (
+gone_next old new ends more all others i next b h e step kept recorded (gone, parted, over) = (
   gone ++ (pair_of old.here next ∷ []),
   parted ∙ ap (λ l. gone ++ segments_from old.here l) (drop_item others i next h e)
       ∙ sym (append_assoc gone (pair_of old.here next ∷ []) (segments_from next (drop (i + 1) others)))
       ∙ ap (λ p. (gone ++ (pair_of old.here next ∷ [])) ++ segments_from p (drop (i + 1) others)) (sym step.here),
-  over_next old new ends more gone next b step over kept (noted gone over),
+  over_next old new ends more gone next b step over kept (recorded gone over),
 )
 
 -- a step that notes both ends, and one that was not gone before
-pub step_noted : (old new : VisitedVertices) (ends more all others : List Pos) (i : ℕ) (here next : Pos) (b : Bool) → i < length others → next ≡ get_or others i next →
+pub step_recorded : (old new : VisitedVertices) (ends more all others : List Pos) (i : ℕ) (here next : Pos) (b : Bool) → i < length others → next ≡ get_or others i next →
     IsStep next b old new → here ≡ old.here → more ≡ (ends ++ (here ∷ [])) ++ (next ∷ []) →
     IsGone old ends all (drop i others) → IsGone new more all (drop (i + 1) others)
-step_noted old new ends more all others i here next b h e step at m before =
+step_recorded old new ends more all others i here next b h e step at m before =
     gone_next old new ends more all others i next b h e step
     (λ p k. subst (Has p) (sym m) (Has-append_left p (ends ++ (here ∷ [])) (next ∷ []) (Has-append_left p ends (here ∷ []) k)))
     (λ gone over k. (
@@ -164,10 +164,10 @@ pub step_new : (old new : VisitedVertices) (ends more all others : List Pos) (i 
 step_new old new ends more all others i next b h e step f m before =
     gone_next old new ends more all others i next b h e step
     (λ p k. subst (Has p) (sym m) k)
-    (λ gone over k. absurd (true_false b (retraced_told old new ends gone next b step over k) f))
+    (λ gone over k. absurd (true_false b (retraced_means old new ends gone next b step over k) f))
     before
 
 -- behind the last
 pub all_gone : (w : VisitedVertices) (ends all others : List Pos) (i : ℕ) → length others ≤ i → IsGone w ends all (drop i others) → HoldEnds ends all
 all_gone w ends all others i h (gone, parted, over) s k =
-    over.noted s (subst (Twice s) (parted ∙ ap (λ l. gone ++ segments_from w.here l) (drop_all i others h) ∙ append_nil gone) k)
+    over.recorded s (subst (Twice s) (parted ∙ ap (λ l. gone ++ segments_from w.here l) (drop_all i others h) ∙ append_nil gone) k)

@@ -19,7 +19,7 @@ use Rattle.lines.proofs.Dropping.{drop_item}
 use Rattle.lines.proofs.Doubles.{Doubled, doubled_twice, twice_doubled, twice_kept, kept_doubled, neighbours_doubled, doubled_neighbours, Doubled-permutation}
 use Rattle.lines.proofs.Pairs.{pair_total, pair_tied, pair_true, pair_refl, pair_same, pair_flip, pair_at}
 use Rattle.lines.proofs.Positions.{both_intro}
-use Rattle.lines.proofs.Trails.{Repeats, repeats_told, told_repeats}
+use Rattle.lines.proofs.Trails.{Repeats, repeats_means, if_repeats}
 
 steps_has : (x y u : Pos) (l : List Pos) → Steps x y (u ∷ l) → Has (pair_of x y) (segments_from u l)
 steps_has x y u [] (inl h) = absurd h.1
@@ -63,39 +63,39 @@ one_test false true f g = g refl
 one_test false false f g = refl
 
 -- neighbours in a sorted list tell whether a segment stands twice, where one does so in the list only if one does so among the segments
-told_by_sorting : (l : List Pos) (xs ys : List PositionPair) → (Doubled (segments_of l) → Doubled xs) → (Doubled xs → Doubled (segments_of l)) →
+if_by_sorting : (l : List Pos) (xs ys : List PositionPair) → (Doubled (segments_of l) → Doubled xs) → (Doubled xs → Doubled (segments_of l)) →
     IsPermutation xs ys → IsSorted pair_cmp ys → equal_neighbours pair_eq ys ≡ repeats position_cmp l
-told_by_sorting l xs ys f g p s =
+if_by_sorting l xs ys f g p s =
     one_test (equal_neighbours pair_eq ys) (repeats position_cmp l)
-    (λ e. told_repeats position_cmp position_total position_same l
+    (λ e. if_repeats position_cmp position_total position_same l
     (all_repeats l (g (Doubled-permutation pair_cmp pair_total pair_tied ys xs (IsPermutation-sym xs ys p)
     (neighbours_doubled pair_cmp pair_total pair_tied pair_eq pair_true pair_refl ys e)))))
     (λ e. doubled_neighbours pair_cmp pair_total pair_tied pair_eq pair_true pair_refl ys s
-    (Doubled-permutation pair_cmp pair_total pair_tied xs ys p (f (repeats_all l (repeats_told position_cmp position_total position_same l e)))))
+    (Doubled-permutation pair_cmp pair_total pair_tied xs ys p (f (repeats_all l (repeats_means position_cmp position_total position_same l e)))))
 
 -- a segment that stands twice does so among those whose ends may be among the noted ones
 doubled_between : (l ends : List Pos) (may : Pos → Bool) → HoldEnds ends l → Holds may ends → Doubled (segments_of l) → Doubled (keep (joins may) (segments_of l))
-doubled_between l ends may noted held h =
+doubled_between l ends may recorded held h =
     let t = doubled_twice (segments_of l) h in
-    let k = noted t.0 t.1 in
+    let k = recorded t.0 t.1 in
     let m : joins may t.0 ≡ true = both_intro (may t.0.lesser) (may t.0.greater) (held t.0.lesser k.0) (held t.0.greater k.1) in
     twice_doubled t.0 (keep (joins may) (segments_of l)) (twice_kept (joins may) (segments_of l) t.0 m t.1)
 
 -- the same in the form of the code: made, sorted, looked through
-pub told_by_code : (l ends marked : List Pos) (may : Pos → Bool) (xs ys zs : List PositionPair) (b : Bool) → HoldEnds ends l → marked ≡ ends → Holds may marked →
+pub if_by_code : (l ends marked : List Pos) (may : Pos → Bool) (xs ys zs : List PositionPair) (b : Bool) → HoldEnds ends l → marked ≡ ends → Holds may marked →
     xs ≡ keep (joins may) (segments_of l) → IsPermutation xs ys → IsSorted pair_cmp ys → zs ≡ ys → b ≡ equal_neighbours pair_eq zs → b ≡ repeats position_cmp l
-told_by_code l ends marked may xs ys zs b noted same held e p s f g =
+if_by_code l ends marked may xs ys zs b recorded same held e p s f g =
     g ∙ ap (equal_neighbours pair_eq) f
-    ∙ told_by_sorting l (keep (joins may) (segments_of l)) ys (doubled_between l ends may noted (subst (Holds may) same held))
+    ∙ if_by_sorting l (keep (joins may) (segments_of l)) ys (doubled_between l ends may recorded (subst (Holds may) same held))
     (kept_doubled (joins may) (segments_of l)) (subst (λ w. IsPermutation w ys) e p) s
 
 -- where no ends are noted no segment stands twice
-pub none_told : (l ends : List Pos) (n : ℕ) (b : Bool) → HoldEnds ends l → n ≡ length ends → b ≡ nat_eq n 0 → b ≡ true → false ≡ repeats position_cmp l
-none_told l ends n b noted m e t =
+pub none_means : (l ends : List Pos) (n : ℕ) (b : Bool) → HoldEnds ends l → n ≡ length ends → b ≡ nat_eq n 0 → b ≡ true → false ≡ repeats position_cmp l
+none_means l ends n b recorded m e t =
     one_test false (repeats position_cmp l) (λ f. absurd cc)
     (λ f.
-    (let d = doubled_twice (segments_of l) (repeats_all l (repeats_told position_cmp position_total position_same l f)) in
-    absurd (nothing ends (sym m ∙ eqb-true n 0 (sym e ∙ t)) d.0.lesser (noted d.0 d.1).0)))
+    (let d = doubled_twice (segments_of l) (repeats_all l (repeats_means position_cmp position_total position_same l f)) in
+    absurd (nothing ends (sym m ∙ eqb-true n 0 (sym e ∙ t)) d.0.lesser (recorded d.0 d.1).0)))
   where
     nothing : (ps : List Pos) → length ps ≡ 0 → (p : Pos) → ¬ Has p ps
     nothing [] z p h = h

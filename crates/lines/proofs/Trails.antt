@@ -70,56 +70,56 @@ module _ {V : Type 0} (cmp : V → V → Ordering) (o : IsTotalOrder cmp) (same 
       go true = refl
       go false = rw (equal-same_vertex cmp o same a d h.0, equal-same_vertex cmp o same b c h.1) refl
 
-  beside_told : (u v x : V) (l : List V) → are_beside cmp u v x l ≡ true → Beside u v (x ∷ l)
-  beside_told u v x [] e = absurd cc
-  beside_told u v x (y ∷ l) e = go (same_sides cmp (u, v) (x, y)) refl e (λ f. beside_told u v y l f)
+  beside_means : (u v x : V) (l : List V) → are_beside cmp u v x l ≡ true → Beside u v (x ∷ l)
+  beside_means u v x [] e = absurd cc
+  beside_means u v x (y ∷ l) e = go (same_sides cmp (u, v) (x, y)) refl e (λ f. beside_means u v y l f)
     where
       go : (b : Bool) → same_sides cmp (u, v) (x, y) ≡ b → cond b true (are_beside cmp u v y l) ≡ true →
           (are_beside cmp u v y l ≡ true → Beside u v (y ∷ l)) → Beside u v (x ∷ (y ∷ l))
       go true p f ih = elim (joins_is u v x y p) [ inl k ↦ inl (inl (k.0, k.1)) | inr k ↦ inr (inl (k.1, k.0)) ]
       go false p f ih = elim (ih f) [ inl k ↦ inl (inr k) | inr k ↦ inr (inr k) ]
 
-  told_beside : (u v x : V) (l : List V) → Beside u v (x ∷ l) → are_beside cmp u v x l ≡ true
-  told_beside u v x [] (inl (inl h)) = absurd h.1
-  told_beside u v x [] (inl (inr h)) = absurd h
-  told_beside u v x [] (inr (inl h)) = absurd h.1
-  told_beside u v x [] (inr (inr h)) = absurd h
-  told_beside u v x (y ∷ l) (inl (inl h)) = rw (is_joins u v x y (inl (h.0, h.1))) refl
-  told_beside u v x (y ∷ l) (inr (inl h)) = rw (is_joins u v x y (inr (h.1, h.0))) refl
-  told_beside u v x (y ∷ l) (inl (inr h)) = either_true (same_sides cmp (u, v) (x, y)) (are_beside cmp u v y l) (told_beside u v y l (inl h))
-  told_beside u v x (y ∷ l) (inr (inr h)) = either_true (same_sides cmp (u, v) (x, y)) (are_beside cmp u v y l) (told_beside u v y l (inr h))
+  if_beside : (u v x : V) (l : List V) → Beside u v (x ∷ l) → are_beside cmp u v x l ≡ true
+  if_beside u v x [] (inl (inl h)) = absurd h.1
+  if_beside u v x [] (inl (inr h)) = absurd h
+  if_beside u v x [] (inr (inl h)) = absurd h.1
+  if_beside u v x [] (inr (inr h)) = absurd h
+  if_beside u v x (y ∷ l) (inl (inl h)) = rw (is_joins u v x y (inl (h.0, h.1))) refl
+  if_beside u v x (y ∷ l) (inr (inl h)) = rw (is_joins u v x y (inr (h.1, h.0))) refl
+  if_beside u v x (y ∷ l) (inl (inr h)) = either_true (same_sides cmp (u, v) (x, y)) (are_beside cmp u v y l) (if_beside u v y l (inl h))
+  if_beside u v x (y ∷ l) (inr (inr h)) = either_true (same_sides cmp (u, v) (x, y)) (are_beside cmp u v y l) (if_beside u v y l (inr h))
 
-  from_told : (x : V) (l : List V) → repeats_from cmp x l ≡ true → Repeats (x ∷ l)
-  from_told x [] e = absurd cc
-  from_told x (y ∷ l) e = go (are_beside cmp x y y l) refl e (λ f. from_told y l f)
+  from_means : (x : V) (l : List V) → repeats_from cmp x l ≡ true → Repeats (x ∷ l)
+  from_means x [] e = absurd cc
+  from_means x (y ∷ l) e = go (are_beside cmp x y y l) refl e (λ f. from_means y l f)
     where
       go : (b : Bool) → are_beside cmp x y y l ≡ b → cond b true (repeats_from cmp y l) ≡ true →
           (repeats_from cmp y l ≡ true → Repeats (y ∷ l)) → Repeats (x ∷ (y ∷ l))
-      go true p f ih = inl (y, refl, beside_told x y y l p)
+      go true p f ih = inl (y, refl, beside_means x y y l p)
       go false p f ih = inr (ih f)
 
-  told_from : (x : V) (l : List V) → Repeats (x ∷ l) → repeats_from cmp x l ≡ true
-  told_from x [] (inl h) = absurd h.1
-  told_from x [] (inr h) = absurd h
-  told_from x (y ∷ l) (inl h) = rw (told_beside x y y l (subst (λ w. Beside x w (y ∷ l)) h.1 h.2)) refl
-  told_from x (y ∷ l) (inr h) = either_true (are_beside cmp x y y l) (repeats_from cmp y l) (told_from y l h)
+  if_from : (x : V) (l : List V) → Repeats (x ∷ l) → repeats_from cmp x l ≡ true
+  if_from x [] (inl h) = absurd h.1
+  if_from x [] (inr h) = absurd h
+  if_from x (y ∷ l) (inl h) = rw (if_beside x y y l (subst (λ w. Beside x w (y ∷ l)) h.1 h.2)) refl
+  if_from x (y ∷ l) (inr h) = either_true (are_beside cmp x y y l) (repeats_from cmp y l) (if_from y l h)
 
-  pub repeats_told : (l : List V) → repeats cmp l ≡ true → Repeats l
-  repeats_told [] e = absurd cc
-  repeats_told (x ∷ l) e = from_told x l e
+  pub repeats_means : (l : List V) → repeats cmp l ≡ true → Repeats l
+  repeats_means [] e = absurd cc
+  repeats_means (x ∷ l) e = from_means x l e
 
-  pub told_repeats : (l : List V) → Repeats l → repeats cmp l ≡ true
-  told_repeats [] h = absurd h
-  told_repeats (x ∷ l) h = told_from x l h
+  pub if_repeats : (l : List V) → Repeats l → repeats cmp l ≡ true
+  if_repeats [] h = absurd h
+  if_repeats (x ∷ l) h = if_from x l h
 
   pub never_repeats : (l : List V) → repeats cmp l ≡ false → ¬ Repeats l
-  never_repeats l e h = absurd (let k : true ≡ false = sym (told_repeats l h) ∙ e in cc)
+  never_repeats l e h = absurd (let k : true ≡ false = sym (if_repeats l h) ∙ e in cc)
 
-  pub once_told : (l : List V) → ¬ Repeats l → repeats cmp l ≡ false
-  once_told l n = go (repeats cmp l) refl
+  pub once_means : (l : List V) → ¬ Repeats l → repeats cmp l ≡ false
+  once_means l n = go (repeats cmp l) refl
     where
       go : (b : Bool) → repeats cmp l ≡ b → repeats cmp l ≡ false
-      go true e = absurd (n (repeats_told l e))
+      go true e = absurd (n (repeats_means l e))
       go false e = e
 
   -- what is left of k ∷ l begins with k, and neighbours differ
@@ -182,7 +182,7 @@ module _ {V : Type 0} (cmp : V → V → Ordering) (o : IsTotalOrder cmp) (same 
     where
       go : (b : Bool) → nat_lt (length c) 2 ≡ b → cond b (Some TooShort) (cond (is_closed cmp c && nat_lt (length c) 4) (Some TooShort) (cond (repeats cmp c) (Some Revisit) None)) ≡ None
       go true p = let n = ltb-true (length c) 2 p in let m : 2 ≤ length c = k.long in absurd (omega arith)
-      go false p = rw (line_not_short c k, once_told c (trail_once c k.once)) refl
+      go false p = rw (line_not_short c k, once_means c (trail_once c k.once)) refl
 
   -- a list has no fault exactly where it is read as a line
   pub line_exact : (l : List V) → (line_fault cmp l ≡ None) ↔ IsLine (collapsed cmp l)

@@ -21,10 +21,10 @@ comes_before a b = is_lt (list_cmp a.now b.now)
 least_facts : (items : List (Bor (List Pos))) → PositionFacts (λ y b. comes_before y b ≡ false) items (position_of (wins false comes_before) items)
 least_facts items = position-least comes_before (ranks_by (lists_total position_total) (λ w. w.now)) items
 
-least_place : (xs : List Pos) (items : List (Bor (List Pos))) (n : ℕ) → 2 ≤ length xs → length items + 1 ≡ length xs →
+least_index : (xs : List Pos) (items : List (Bor (List Pos))) (n : ℕ) → 2 ≤ length xs → length items + 1 ≡ length xs →
     ((k : ℕ) (d : Bor (List Pos)) → k < length items → (slice_index_or items k d).now ≡ window xs k) →
     n ≡ unwrap_or (position_of (wins false comes_before) items) 0 → IsLeastStart position_cmp xs n
-least_place xs items n long count reads e = go (position_of (wins false comes_before) items) (least_facts items) e
+least_index xs items n long count reads e = go (position_of (wins false comes_before) items) (least_facts items) e
   where
     found : (i : ℕ) → i < length items → (d : Bor (List Pos)) → All (λ y. comes_before y (slice_index_or items i d) ≡ false) items → IsLeastStart position_cmp xs i
     found i w d all = record {
@@ -48,7 +48,7 @@ pub least_window : (w : Windows Pos) (xs : List Pos) (n : ℕ) (r : Option ℕ) 
     EveryRun (windows_steps {A = Pos}) (λ p. 0 < windows_size p.from → IsWindowsRun p (windows_size p.from) (windows_rest p.from)) →
     WholeRun (windows_steps {A = Pos}) w (λ p. r ≡ position_of (wins false comes_before) p.items) → n ≡ unwrap_or r 0 → IsLeastStart position_cmp xs n
 least_window w xs n r rest size long each (p, from, whole, is) e =
-    least_place xs p.items n long count reads (e ∙ ap (λ o. unwrap_or o 0) is)
+    least_index xs p.items n long count reads (e ∙ ap (λ o. unwrap_or o 0) is)
   where
     size_is : windows_size p.from ≡ 2
     size_is = ap windows_size from ∙ size

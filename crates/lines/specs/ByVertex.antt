@@ -7,9 +7,9 @@ use Rattle.lines.specs.Pairs.{position_eq}
 use Rattle.lines.specs.Turned.{position_cmp}
 
 -- none is before one of a lesser vertex
-abbrev pub StandByVertex : {A : Type 0} → (A → Pos) → List A → Type 0
-StandByVertex at [] = Unit {0}
-StandByVertex {A} at (x ∷ l) = ((y : A) → Has y l → is_gt (position_cmp (at x) (at y)) ≡ false) × StandByVertex at l
+abbrev pub AreByVertex : {A : Type 0} → (A → Pos) → List A → Type 0
+AreByVertex at [] = Unit {0}
+AreByVertex {A} at (x ∷ l) = ((y : A) → Has y l → is_gt (position_cmp (at x) (at y)) ≡ false) × AreByVertex at l
 
 -- how many of the first are at v
 abbrev pub count_at : {A : Type 0} → (A → Pos) → Pos → List A → ℕ

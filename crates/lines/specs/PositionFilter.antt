@@ -10,8 +10,8 @@ abbrev pub hash : Pos → ℕ
 hash p = (((cast_unsigned w64 p.x * 11400714819323198485) % 2 ^ 64) + ((cast_unsigned w64 p.y * 14029467366897019727) % 2 ^ 64)) % 2 ^ 64
 
 -- the place of a position, of so many
-abbrev pub place_among : ℕ → Pos → ℕ
-place_among count p = (((hash p / 2 ^ 32) * count) % 2 ^ 64) / 2 ^ 32
+abbrev pub index_among : ℕ → Pos → ℕ
+index_among count p = (((hash p / 2 ^ 32) * count) % 2 ^ 64) / 2 ^ 32
 
 -- one bit of a word
 abbrev pub bit : ℕ → ℕ
@@ -36,4 +36,4 @@ AreSet at mask old new = ((n m : ℕ) → mask_at old n m ≡ true → mask_at n
 
 -- whether the bits of a position are set
 abbrev pub may_hold : PositionFilter → Pos → Bool
-may_hold s p = mask_at s.words.items (place_among s.count p) (mask_of p)
+may_hold s p = mask_at s.words.items (index_among s.count p) (mask_of p)

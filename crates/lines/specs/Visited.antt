@@ -24,4 +24,4 @@ pub record IsStep (p : Pos) (retraced : Bool) (old new : VisitedVertices) : Type
   pub met : Keeps (may_hold old.met) (may_hold new.met)
   pub marked : may_hold new.met p ≡ true
   pub again : may_hold old.met p ≡ true → new.again ≡ true
-  pub told : may_hold old.met p ≡ true → (old.again ≡ true) ⊎ (p ≡ old.before) → retraced ≡ true
+  pub meant : may_hold old.met p ≡ true → (old.again ≡ true) ⊎ (p ≡ old.before) → retraced ≡ true

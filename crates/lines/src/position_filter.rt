@@ -28,8 +28,8 @@ fn hash(p: Pos) -> u64
 }
 
 /// The place of a position, of so many.
-pub fn place_among(count: usize, p: Pos) -> usize
-    ensures { result ≡ spec.place_among count p }
+pub fn index_among(count: usize, p: Pos) -> usize
+    ensures { result ≡ spec.index_among count p }
 {
     ((hash(p) >> 32).wrapping_mul(count as u64) >> 32) as usize
 }
@@ -83,7 +83,7 @@ impl PositionFilter {
     pub fn mark(&mut self, p: Pos)
         ensures { IsMarked p (may_hold self.old) (may_hold self.new) }
     {
-        set_mask(&mut self.words, place_among(self.count, p), mask_of(p));
+        set_mask(&mut self.words, index_among(self.count, p), mask_of(p));
     }
 
     /// Sets the bits of positions.
@@ -108,6 +108,6 @@ impl PositionFilter {
     pub fn may_hold(&self, p: Pos) -> bool
         ensures { result ≡ may_hold self.now p }
     {
-        has_mask(&self.words, place_among(self.count, p), mask_of(p))
+        has_mask(&self.words, index_among(self.count, p), mask_of(p))
     }
 }

@@ -39,32 +39,32 @@ has_indexes n (Node' p left q right) e =
     let b = both_none (first_outside n (leaves left)) (first_outside n (leaves right)) (sym (first_outside-append n (leaves left) (leaves right)) ∙ e) in
     (has_indexes n left b.0, has_indexes n right b.1)
 
-told_later : (n : ℕ) (xs ys : List ℕ) (o : Option ℕ) → option_or (first_outside n (xs ++ ys)) o ≡ option_or (first_outside n xs) (option_or (first_outside n ys) o)
-told_later n xs ys o = ap (λ f. option_or f o) (first_outside-append n xs ys) ∙ grouped (first_outside n xs) (first_outside n ys) o
+if_later : (n : ℕ) (xs ys : List ℕ) (o : Option ℕ) → option_or (first_outside n (xs ++ ys)) o ≡ option_or (first_outside n xs) (option_or (first_outside n ys) o)
+if_later n xs ys o = ap (λ f. option_or f o) (first_outside-append n xs ys) ∙ grouped (first_outside n xs) (first_outside n ys) o
   where
     grouped : (a b c : Option ℕ) → option_or (option_or a b) c ≡ option_or a (option_or b c)
     grouped None b c = refl
     grouped (Some x) b c = refl
 
 -- other leaves are left to look at, and they tell the same
-pub told_as : (n : ℕ) (xs ys zs : List ℕ) (o p f : Option ℕ) → option_or (first_outside n (xs ++ ys)) o ≡ f →
+pub if_as : (n : ℕ) (xs ys zs : List ℕ) (o p f : Option ℕ) → option_or (first_outside n (xs ++ ys)) o ≡ f →
     option_or (first_outside n ys) o ≡ option_or (first_outside n zs) p → option_or (first_outside n (xs ++ zs)) p ≡ f
-told_as n xs ys zs o p f h e = told_later n xs zs p ∙ ap (option_or (first_outside n xs)) (sym e) ∙ sym (told_later n xs ys o) ∙ h
+if_as n xs ys zs o p f h e = if_later n xs zs p ∙ ap (option_or (first_outside n xs)) (sym e) ∙ sym (if_later n xs ys o) ∙ h
 
 -- a leaf on the left that is an index tells nothing
 pub index_passed : (n i : ℕ) (xs ls rs ts : List ℕ) (o f : Option ℕ) → option_or (first_outside n (xs ++ (ls ++ rs))) o ≡ f →
     ls ≡ i ∷ [] → ts ≡ rs → i < n → option_or (first_outside n (xs ++ ts)) o ≡ f
 index_passed n i xs ls rs ts o f h leaf same lt =
-    told_as n xs (ls ++ rs) ts o o f h
+    if_as n xs (ls ++ rs) ts o o f h
     (ap (λ w. option_or w o)
     (ap (λ w. first_outside n (w ++ rs)) leaf ∙ ap (λ b. cond b (first_outside n rs) (Some i)) (lt-ltb i n lt) ∙ ap (first_outside n) (sym same)))
 
 -- a leaf on the left that is no index is told before what stands on its right
-pub leaf_told : (n i : ℕ) (xs ls rs ts : List ℕ) (o f : Option ℕ) → option_or (first_outside n (xs ++ (ls ++ rs))) o ≡ f →
+pub leaf_means : (n i : ℕ) (xs ls rs ts : List ℕ) (o f : Option ℕ) → option_or (first_outside n (xs ++ (ls ++ rs))) o ≡ f →
     ls ≡ i ∷ [] → ts ≡ ls → n ≤ i → option_or (first_outside n (xs ++ ts)) o ≡ f
-leaf_told n i xs ls rs ts o f h leaf same le =
+leaf_means n i xs ls rs ts o f h leaf same le =
     let tells : (r : Option ℕ) → cond (nat_lt i n) r (Some i) ≡ Some i = λ r. ap (λ b. cond b r (Some i)) (le-ltb i n le) in
-    told_as n xs (ls ++ rs) ts o o f h
+    if_as n xs (ls ++ rs) ts o o f h
     (ap (λ w. option_or w o)
     (ap (λ w. first_outside n (w ++ rs)) leaf ∙ tells (first_outside n rs) ∙ sym (tells None) ∙ ap (first_outside n) (sym (same ∙ leaf))))
 
@@ -73,18 +73,18 @@ pub leaf_read : (n i : ℕ) (xs ls : List ℕ) (o p f : Option ℕ) → option_o
     ls ≡ i ∷ [] → p ≡ cond (nat_lt i n) o (Some i) → option_or (first_outside n xs) p ≡ f
 leaf_read n i xs ls o p f h leaf is =
     ap (λ w. option_or (first_outside n w) p) (sym (append-nil xs))
-    ∙ told_as n xs ls [] o p f h (ap (λ w. option_or (first_outside n w) o) leaf ∙ read (nat_lt i n) ∙ sym is)
+    ∙ if_as n xs ls [] o p f h (ap (λ w. option_or (first_outside n w) o) leaf ∙ read (nat_lt i n) ∙ sym is)
   where
     read : (b : Bool) → option_or (cond b None (Some i)) o ≡ cond b o (Some i)
     read true = refl
     read false = refl
 
 -- what stands on the right was told by a call
-pub right_told : (n : ℕ) (xs ls rs ts us : List ℕ) (o r p f : Option ℕ) → option_or (first_outside n (xs ++ (ls ++ rs))) o ≡ f →
+pub right_means : (n : ℕ) (xs ls rs ts us : List ℕ) (o r p f : Option ℕ) → option_or (first_outside n (xs ++ (ls ++ rs))) o ≡ f →
     ts ≡ ls → us ≡ rs → r ≡ first_outside n us → p ≡ option_or r o → option_or (first_outside n (xs ++ ts)) p ≡ f
-right_told n xs ls rs ts us o r p f h left right told is =
-    told_as n xs (ls ++ rs) ts o p f h
-    (told_later n ls rs o ∙ ap (λ w. option_or (first_outside n w) (option_or (first_outside n rs) o)) (sym left)
+right_means n xs ls rs ts us o r p f h left right told is =
+    if_as n xs (ls ++ rs) ts o p f h
+    (if_later n ls rs o ∙ ap (λ w. option_or (first_outside n w) (option_or (first_outside n rs) o)) (sym left)
     ∙ ap (option_or (first_outside n ts)) (ap (λ w. option_or (first_outside n w) o) (sym right) ∙ ap (λ w. option_or w o) (sym told) ∙ sym is))
 
 -- the last item of a list is taken

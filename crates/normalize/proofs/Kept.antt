@@ -23,7 +23,7 @@ use Rattle.topo.specs.Bodies as bodies
 use Rattle.topo.specs.declared.geom.Geom.{Geom}
 use Rattle.validate.specs.Accept.Kept.{KeepLayers, KeepsFeature, KeepsLayer}
 use Rattle.validate.specs.Accept.Laws.{HaveI64}
-use Rattle.normalize.specs.Lists.{all_have_pieces, begun_as, geometry_healed, layer_healed, line_healed, line_joined, listed_if, nowhere, place_of, ring_healed, ring_joined, same_ref, same_refs}
+use Rattle.normalize.specs.Lists.{all_have_pieces, starts_as, geometry_healed, layer_healed, line_healed, line_joined, listed_if, nowhere, place_of, ring_healed, ring_joined, same_ref, same_refs}
 use Rattle.normalize.specs.Pieces.{AreJoinedOf, AreSplit}
 use Rattle.normalize.proofs.Replaced.{replaced_stitch, unreplaced_stitch}
 use Rattle.normalize.proofs.Turning.{elsewhere}
@@ -84,7 +84,7 @@ listed_kept false arcs used l h = absurd (nowhere_none arcs l h)
 
 module _ (table : List (List Pos)) where
   -- what a list stitches to that is begun elsewhere
-  turned_stitch : (refs others : List ArcRef) (q : List Pos) → StitchTo table (begun_as refs others) (closed q) → (p : List Pos) × IsRotation q p × StitchTo table others (closed p)
+  turned_stitch : (refs others : List ArcRef) (q : List Pos) → StitchTo table (starts_as refs others) (closed q) → (p : List Pos) × IsRotation q p × StitchTo table others (closed p)
   turned_stitch [] others q h = (q, ([], q, refl, sym (append-nil q)), h)
   turned_stitch (a ∷ refs) others q h =
       let t = elsewhere table (take (place_of a others) others) (drop (place_of a others) others) q h in
@@ -104,10 +104,10 @@ module _ (table : List (List Pos)) where
     ring_kept v used (q, ro, h) =
         let list = ring_joined pieces r used in
         let back = replaced r.pieces list in
-        let k = listed_kept (all_have_pieces pieces used && same_refs back (begun_as back (replaced pieces used))) r.arcs.arcs list (closed q) h in
-        let b = both_true (all_have_pieces pieces used) (same_refs back (begun_as back (replaced pieces used))) k.0 in
+        let k = listed_kept (all_have_pieces pieces used && same_refs back (starts_as back (replaced pieces used))) r.arcs.arcs list (closed q) h in
+        let b = both_true (all_have_pieces pieces used) (same_refs back (starts_as back (replaced pieces used))) k.0 in
         let t = turned_stitch back (replaced pieces used) q
-        (subst (λ w. StitchTo table w (closed q)) (refs_same back (begun_as back (replaced pieces used)) b.1)
+        (subst (λ w. StitchTo table w (closed q)) (refs_same back (starts_as back (replaced pieces used)) b.1)
         (replaced_stitch table r.arcs.arcs r.pieces joined list (closed q) k.1)) in
         (t.0, rotation_trans (vertices_of v) q t.0 ro t.1, unreplaced_stitch table arcs pieces split used (closed t.0) b.0 t.2)
 

@@ -28,8 +28,8 @@ module _ (arcs : List (List Pos)) where
   abbrev pub Elsewhere : List ArcRef → List Pos → Type 0
   Elsewhere us q = (p : List Pos) × IsRotation q p × StitchTo arcs us (closed p)
 
-  begun_elsewhere : (x : Pos) (l : List Pos) (a : ArcRef) (s t : List ArcRef) → StitchFrom arcs x (t ++ (a ∷ s)) (l ++ (x ∷ [])) → Elsewhere ((a ∷ s) ++ t) (x ∷ l)
-  begun_elsewhere x l a s t h =
+  started_elsewhere : (x : Pos) (l : List Pos) (a : ArcRef) (s t : List ArcRef) → StitchFrom arcs x (t ++ (a ∷ s)) (l ++ (x ∷ [])) → Elsewhere ((a ∷ s) ++ t) (x ∷ l)
+  started_elsewhere x l a s t h =
       let k = stitch_parts arcs x t (a ∷ s) (l ++ (x ∷ [])) h in
       let round : last_of (last_of x k.0) k.1 ≡ x = sym (last_join x k.0 k.1) ∙ ap (λ w. last_of x w) (sym k.2) ∙ last-snoc x x l in
       let st = stitch_join (last_of x k.0) (a ∷ s) t k.1 k.0 k.4 (subst (λ w. StitchFrom arcs w t k.0) (sym round) k.3) in
@@ -66,4 +66,4 @@ module _ (arcs : List (List Pos)) where
   elsewhere [] t q h = (q, ([], q, refl, sym (append-nil q)), subst (λ w. StitchTo arcs w (closed q)) (append-nil t) h)
   elsewhere (a ∷ s) [] q h = (q, ([], q, refl, sym (append-nil q)), subst (λ w. StitchTo arcs w (closed q)) (sym (append-nil (a ∷ s))) h)
   elsewhere (a ∷ s) (b ∷ t) [] h = absurd h
-  elsewhere (a ∷ s) (b ∷ t) (x ∷ l) h = begun_elsewhere x l a s (b ∷ t) h
+  elsewhere (a ∷ s) (b ∷ t) (x ∷ l) h = started_elsewhere x l a s (b ∷ t) h

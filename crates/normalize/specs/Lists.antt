@@ -41,9 +41,9 @@ place_of a [] = 0
 place_of a (b ∷ refs) = cond (same_ref b a) 0 (1 + place_of a refs)
 
 -- a list, begun where it has the first used arc of another
-abbrev pub begun_as : List ArcRef → List ArcRef → List ArcRef
-begun_as [] others = others
-begun_as (a ∷ refs) others = drop (place_of a others) others ++ take (place_of a others) others
+abbrev pub starts_as : List ArcRef → List ArcRef → List ArcRef
+starts_as [] others = others
+starts_as (a ∷ refs) others = drop (place_of a others) others ++ take (place_of a others) others
 
 -- a list that stitches to nothing
 abbrev pub nowhere : List (List Pos) → List ArcRef
@@ -69,7 +69,7 @@ line_healed pieces r used =
 -- the list of a ring
 abbrev pub ring_healed : List (List ArcRef) → HealedParts → List ArcRef → List ArcRef
 ring_healed pieces r used =
-    listed_if (all_have_pieces pieces used && same_refs (replaced r.pieces (ring_joined pieces r used)) (begun_as (replaced r.pieces (ring_joined pieces r used)) (replaced pieces used))) r.arcs.arcs (ring_joined pieces r used)
+    listed_if (all_have_pieces pieces used && same_refs (replaced r.pieces (ring_joined pieces r used)) (starts_as (replaced r.pieces (ring_joined pieces r used)) (replaced pieces used))) r.arcs.arcs (ring_joined pieces r used)
 
 -- a geometry by the healed arcs
 abbrev pub geometry_healed : List (List ArcRef) → HealedParts → Geom → Geom

@@ -16,7 +16,7 @@ use topo::Layer;
 use validate::accept::TextArcs;
 
 /// The place of the first of the least positions.
-fn place_of_least(positions: &[Pos]) -> usize {
+fn index_of_least(positions: &[Pos]) -> usize {
     positions.iter().position_min().unwrap_or(0)
 }
 
@@ -43,13 +43,13 @@ fn add_line(alloc: Global, lines: &mut Vec<Line>, positions: &[Pos]) -> Result<(
 /// begins at its least vertex, which has to be an end of a piece for that.
 fn lines_of(alloc: Global, arc: &[Pos]) -> Result<Vec<Line>, OutOfMemory> {
     let mut lines = Vec::new(alloc);
-    let place = place_of_least(arc);
-    if place == 0 || place >= arc.len().saturating_sub(1) {
+    let index = index_of_least(arc);
+    if index == 0 || index >= arc.len().saturating_sub(1) {
         add_line(alloc, &mut lines, arc)?;
         return Ok(lines);
     }
-    add_line(alloc, &mut lines, &arc[..place + 1])?;
-    add_line(alloc, &mut lines, &arc[place..])?;
+    add_line(alloc, &mut lines, &arc[..index + 1])?;
+    add_line(alloc, &mut lines, &arc[index..])?;
     Ok(lines)
 }
 

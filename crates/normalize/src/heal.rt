@@ -1,5 +1,5 @@
 //! Arcs healed: joined where no node is.
-ghost use Rattle.grid.specs.declared.pos.Pos.{Pos as place};
+ghost use Rattle.grid.specs.declared.pos.Pos.{Pos as index};
 ghost use Rattle.normalize.specs.Pieces.{AreJoinedOf};
 ghost use Rattle.std.specs.Prelude.{◌≡◌, IfOk, IfSome, List, Some, slice_get, true};
 ghost use Rattle.theory.specs.ArcNumbers.{StitchTo};
@@ -14,7 +14,7 @@ use std::alloc::Global;
 
 /// Whether the pieces of a joined arc stitch to it.
 fn stitches(table: &ArcTable, joined: &HealedArcs, number: usize) -> bool
-    ensures { result ≡ true → (c : List place) → slice_get joined.now.arcs.arcs number ≡ Some c → StitchTo table.now.arcs (pieces_at joined.now.pieces number) c }
+    ensures { result ≡ true → (c : List index) → slice_get joined.now.arcs.arcs number ≡ Some c → StitchTo table.now.arcs (pieces_at joined.now.pieces number) c }
 {
     match joined.arcs().arc(number) {
         Some(arc) => match joined.pieces(number) {

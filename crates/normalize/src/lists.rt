@@ -41,7 +41,7 @@ fn are_same(refs: &[ArcRef], others: &[ArcRef]) -> bool
 
 /// The place of a used arc in a list; that behind the last where it is not there.
 fn place_of(first: ArcRef, refs: &[ArcRef]) -> usize
-    ensures place { result ≡ spec.place_of first refs.now }
+    ensures index { result ≡ spec.place_of first refs.now }
     ensures within { result ≤ length refs.now }
 {
     for (i, used) in refs.iter().enumerate() {
@@ -53,14 +53,14 @@ fn place_of(first: ArcRef, refs: &[ArcRef]) -> usize
 }
 
 /// A list, begun where it has the first used arc of another.
-fn begun_as(refs: &[ArcRef], mut others: Vec<ArcRef>) -> Vec<ArcRef>
-    ensures { result.items ≡ spec.begun_as refs.now others.items }
+fn starts_as(refs: &[ArcRef], mut others: Vec<ArcRef>) -> Vec<ArcRef>
+    ensures { result.items ≡ spec.starts_as refs.now others.items }
 {
     let Some(first) = refs.first() else {
         return others;
     };
-    let place = place_of(*first, &others);
-    others.rotate_left(place);
+    let index = place_of(*first, &others);
+    others.rotate_left(index);
     others
 }
 
@@ -99,7 +99,7 @@ impl NewLists for HealedLists<'_> {
         let pieces = replace_arcs(alloc, self.split, used)?;
         let list = self.joined.ring(alloc, &pieces)?;
         let back = replace_arcs(alloc, self.joined, &list)?;
-        let turned = begun_as(&back, pieces);
+        let turned = starts_as(&back, pieces);
         if all_have_pieces(self.split, used) && are_same(&back, &turned) {
             return Ok(list);
         }

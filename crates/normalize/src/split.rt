@@ -1,5 +1,5 @@
 //! The arcs of a text, split where they meet.
-ghost use Rattle.grid.specs.declared.pos.Pos.{Pos as place};
+ghost use Rattle.grid.specs.declared.pos.Pos.{Pos as index};
 ghost use Rattle.normalize.specs.Pieces.{ArePieces, AreSplit};
 ghost use Rattle.std.specs.Prelude.{◌≡◌, IfOk, IfSome, List, Some, slice_get};
 
@@ -80,7 +80,7 @@ fn pieces_of_number(
     number: usize,
     found: Vec<ArcRef>,
 ) -> Vec<ArcRef>
-    ensures { (c : List place) → slice_get arcs.now number ≡ Some c → ArePieces table.now.arcs c result.items }
+    ensures { (c : List index) → slice_get arcs.now number ≡ Some c → ArePieces table.now.arcs c result.items }
 {
     match arcs.arc(number) {
         Some(arc) => checked_pieces(alloc, table, arc, found),

@@ -65,10 +65,10 @@ both_refused a old new s t means others layer named r h = inr (inr (inr (inr (in
         let (n, also, of_others) = others in
         inr (inr (h.0, λ e. h.1 (is.grid ∙ e ∙ sym also.grid)))
 
-pub layer_told : (s t : TopologyParts) (layer : Option (List ℕ)) {T E : Type 0} (x : T) (e : E) →
+pub layer_says : (s t : TopologyParts) (layer : Option (List ℕ)) {T E : Type 0} (x : T) (e : E) →
     ((m n : Layers) → IsOf m s → IsOf n t → (◌≡◌ {A = Result T E} (Ok x) (Err e)) ↔ ((s.grid ≡ t.grid) × LackLayer layer m n)) → s.grid ≡ t.grid →
     (m n : Layers) → IsOf m s → IsOf n t → ¬ LackLayer layer m n
-layer_told s t layer x e exact same m n of of_others lack = ok_no_err x e ((exact m n of of_others).1 (same, lack))
+layer_says s t layer x e exact same m n of of_others lack = ok_no_err x e ((exact m n of of_others).1 (same, lack))
   where
     ok_no_err : {T E : Type 0} (x : T) (e : E) → ◌≡◌ {A = Result T E} (Ok x) (Err e) → ⊥
     ok_no_err x e f = cc

@@ -26,12 +26,12 @@ one_text text t (n, meant, of_map) g m means =
     ap topology_text (is_computed t.grid n (seen_parts t) of_map.topology) ∙ (λ i. canon (one.0 i) (one.1 i))
 
 -- a text that is that of its topology is canonical, and else it isn't
-pub canonical_told : (text : List ℕ) (t : TopologyParts) (b : Bool) → IsTrue b ↔ (text ≡ topology_text (seen_parts t)) → MeansTopology text t → Says (IsCanonical text) (IsNotCanonical text) b
-canonical_told text t true exact (n, meant, of_map) = record {
+pub canonical_means : (text : List ℕ) (t : TopologyParts) (b : Bool) → IsTrue b ↔ (text ≡ topology_text (seen_parts t)) → MeansTopology text t → Says (IsCanonical text) (IsNotCanonical text) b
+canonical_means text t true exact (n, meant, of_map) = record {
   accepted = meant.accepted;
   canonical = λ g m means. exact.0 refl ∙ one_text text t (n, meant, of_map) g m means;
 }
-canonical_told text t false exact (n, meant, of_map) = record {
+canonical_means text t false exact (n, meant, of_map) = record {
   accepted = meant.accepted;
   other = λ g m means e. no_true (exact.1 (e ∙ sym (one_text text t (n, meant, of_map) g m means)));
 }

@@ -122,21 +122,21 @@ module _ {X : Type 0} (n : X → ℕ) (t a b : ℕ) (xs from : List X) (rise : I
   below : (x : X) → Has x (take a xs) → n x < t
   below x h =
       let (k, under, is) = has_take xs a x h in
-      let told : ltb (n x) t ≡ true = subst (λ y. ltb (n y) t ≡ true) is (low.0 k x (omega arith) under) in
-      elim (leb_tells (suc (n x)) t) [ inl p ↦ omega (arith, p.1) | inr p ↦ absurd (let e : true ≡ false = sym told ∙ p.0 in cc) ]
+      let meant : ltb (n x) t ≡ true = subst (λ y. ltb (n y) t ≡ true) is (low.0 k x (omega arith) under) in
+      elim (leb_tells (suc (n x)) t) [ inl p ↦ omega (arith, p.1) | inr p ↦ absurd (let e : true ≡ false = sym meant ∙ p.0 in cc) ]
 
   least : (x : X) → Has x from → t ≤ n x
   least x h =
       let (k, over, under, is) = has_drop xs a x (subst (Has x) back h) in
-      let told : ltb (n x) t ≡ false = subst (λ y. ltb (n y) t ≡ false) is (low.1 k x over under) in
-      elim (leb_tells (suc (n x)) t) [ inl p ↦ absurd (let e : true ≡ false = sym p.0 ∙ told in cc) | inr p ↦ omega (arith, p.1) ]
+      let meant : ltb (n x) t ≡ false = subst (λ y. ltb (n y) t ≡ false) is (low.1 k x over under) in
+      elim (leb_tells (suc (n x)) t) [ inl p ↦ absurd (let e : true ≡ false = sym p.0 ∙ meant in cc) | inr p ↦ omega (arith, p.1) ]
 
   within : (x : X) → Has x (take b from) → n x ≡ t
   within x h =
       let (k, under, is) = has_take from b x h in
-      let told : leb (n x) t ≡ true = subst (λ y. leb (n y) t ≡ true) is (high.0 k x (omega arith) under) in
+      let meant : leb (n x) t ≡ true = subst (λ y. leb (n y) t ≡ true) is (high.0 k x (omega arith) under) in
       let more = least x (taken from b x h) in
-      elim (leb_tells (n x) t) [ inl p ↦ omega (arith, p.1, more) | inr p ↦ absurd (let e : true ≡ false = sym told ∙ p.0 in cc) ]
+      elim (leb_tells (n x) t) [ inl p ↦ omega (arith, p.1, more) | inr p ↦ absurd (let e : true ≡ false = sym meant ∙ p.0 in cc) ]
     where
       taken : (ys : List X) (i : ℕ) (x : X) → Has x (take i ys) → Has x ys
       taken [] zero x h = h
@@ -148,8 +148,8 @@ module _ {X : Type 0} (n : X → ℕ) (t a b : ℕ) (xs from : List X) (rise : I
   above : (x : X) → Has x (drop b from) → t < n x
   above x h =
       let (k, over, under, is) = has_drop from b x h in
-      let told : leb (n x) t ≡ false = subst (λ y. leb (n y) t ≡ false) is (high.1 k x over under) in
-      elim (leb_tells (n x) t) [ inl p ↦ absurd (let e : true ≡ false = sym p.0 ∙ told in cc) | inr p ↦ omega (arith, p.1) ]
+      let meant : leb (n x) t ≡ false = subst (λ y. leb (n y) t ≡ false) is (high.1 k x over under) in
+      elim (leb_tells (n x) t) [ inl p ↦ absurd (let e : true ≡ false = sym p.0 ∙ meant in cc) | inr p ↦ omega (arith, p.1) ]
 
   in_parts : (test : X → Bool) → filter test xs ≡ filter test (take a xs) ++ (filter test (take b from) ++ filter test (drop b from))
   in_parts test =

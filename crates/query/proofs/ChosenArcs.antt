@@ -23,7 +23,7 @@ use Rattle.theory.proofs.ArcNumbers.{taken_of, uses_along}
 use Rattle.theory.proofs.ArcsAsMap.{arcs_same, three_map}
 use Rattle.theory.proofs.Chains.{IsChain-same}
 use Rattle.theory.proofs.HealingKept.{kept_laws, kept_stays, line_list, list_ends}
-use Rattle.theory.proofs.JunctionTest.{junction_told, no_junction_told}
+use Rattle.theory.proofs.JunctionTest.{junction_means, no_junction_means}
 use Rattle.theory.proofs.Junctions.{junction_law}
 use Rattle.theory.proofs.Lists.{Beside-left, Has-append, Has-append_left, Has-append_right}
 use Rattle.theory.proofs.ListsOfLists.{get_has}
@@ -189,9 +189,9 @@ module _ (m : Geometry Pos) (sound : IsSound m) (t : Arcs) (table : IsTableOf m 
   stop_junction v s = go (is_junction position_cmp m v) refl
     where
       go : (b : Bool) → is_junction position_cmp m v ≡ b → JunctionOf m v
-      go true e = junction_told position_cmp position_total position_same m v e
+      go true e = junction_means position_cmp position_total position_same m v e
       go false e =
-          let free : ¬ JunctionOf m v = no_junction_told position_cmp position_total position_same m v e in
+          let free : ¬ JunctionOf m v = no_junction_means position_cmp position_total position_same m v e in
           let (w, on) = stop_segment v s in
           let (k, c, there, at, side) = on_arc t.arcs ks v w on in
           let beside : Beside v w c = sides_beside c v w side in
@@ -279,15 +279,15 @@ module _ (m : Geometry Pos) (sound : IsSound m) (t : Arcs) (table : IsTableOf m 
       subst (λ w. Has w ks) (sym (table.once.one_arc a b k j c d e f beside (sides_beside d a b side))) there
 
   -- the marks and the stops are those that tell what is left
-  module _ (marks : List Bool) (told : (k : ℕ) → (slice_get marks k ≡ Some true) ↔ (Has k ks × ((c : List Pos) × (slice_get t.arcs k ≡ Some c)))) where
+  module _ (marks : List Bool) (meant : (k : ℕ) → (slice_get marks k ≡ Some true) ↔ (Has k ks × ((c : List Pos) × (slice_get t.arcs k ≡ Some c)))) where
     left_by : IsLeftBy g both t marks stops
     left_by = record {
       sound = su;
       table = table_u;
       part = union.right;
       kept = λ k. (
-        (λ e. let h = (told k).0 e in chosen_kept k h.1.0 h.0 h.1.1),
-        (λ h. (told k).1 (kept_chosen k h, kept_there k h)),
+        (λ e. let h = (meant k).0 e in chosen_kept k h.1.0 h.0 h.1.1),
+        (λ h. (meant k).1 (kept_chosen k h, kept_there k h)),
       );
       ends = λ v. (
         (λ h.

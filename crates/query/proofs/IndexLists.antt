@@ -81,7 +81,7 @@ record IsHeld (P : ℕ → Type 0) (top : ℕ) (l : List ℕ) : Type 0 where
 
 held_more : (P : ℕ → Type 0) (top i : ℕ) (l : List ℕ) → IsHeld P top l → top ≤ i → IsHeld (λ y. P y ⊎ (y ≡ i)) i (with_index l i)
 held_more P top i l h up =
-    test (is_number (slice_get l (length l - 1)) i) refl (λ e. last_had l i (told (slice_get l (length l - 1)) e))
+    test (is_number (slice_get l (length l - 1)) i) refl (λ e. last_had l i (meant (slice_get l (length l - 1)) e))
     (λ e k.
     let last : slice_get l (length l - 1) ≡ Some i = last_most l i h.climb most k in
     let f : true ≡ false = sym ((unsigned_Decides i i).1 refl) ∙ ap (λ o. is_number o i) (sym last) ∙ e in cc)
@@ -89,9 +89,9 @@ held_more P top i l h up =
     most : (y : ℕ) → Has y l → y ≤ i
     most y k = let m = h.most y k in omega (arith, m, up)
 
-    told : (o : Option ℕ) → is_number o i ≡ true → o ≡ Some i
-    told None e = cc
-    told (Some y) e = ap Some (same_number y i true e refl)
+    meant : (o : Option ℕ) → is_number o i ≡ true → o ≡ Some i
+    meant None e = cc
+    meant (Some y) e = ap Some (same_number y i true e refl)
 
     had : Has i l → IsHeld (λ y. P y ⊎ (y ≡ i)) i l
     had k = record {
@@ -227,8 +227,8 @@ module _ (gs : List Geom) (cs : List ℕ) (us : List Use) (vs : List ArcUser) (u
     ),
   )
 
-  pub lists_told : (lists : List (List ℕ)) → lists ≡ with_indexes cs vs (replicate (length gs) []) us → AreListsBy gs cs lists
-  lists_told lists is = record {
+  pub lists_means : (lists : List (List ℕ)) → lists ≡ with_indexes cs vs (replicate (length gs) []) us → AreListsBy gs cs lists
+  lists_means lists is = record {
     each = ap length is ∙ held.count;
     ascend = λ i js e. increasing js (list i js e).climb;
     exact = λ i js e j. (

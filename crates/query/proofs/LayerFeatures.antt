@@ -164,9 +164,9 @@ features_share m t of f h a b i j p q =
     (form_of f.shape) (form_of h.shape) (body_of a.body) (body_of b.body) p.form q.form (form_rings m f i) (form_rings m h j) (form_segment m f i)
 
 -- want of memory is not that the layer lacks
-pub layer_stands : {A : Type 0} (r : Result A QueryFault) (Q : Type 0) → IsErrAnd r (λ f. f ≡ WantOfMemory) → Q → (r ≡ Err NoLayer) ↔ (¬ Q)
-layer_stands (Ok a) Q h q = absurd h
-layer_stands (Err f) Q h q = ((λ k. absurd (let j : f ≡ NoLayer = cc in cc)), λ n. absurd (n q))
+pub layer_holds : {A : Type 0} (r : Result A QueryFault) (Q : Type 0) → IsErrAnd r (λ f. f ≡ WantOfMemory) → Q → (r ≡ Err NoLayer) ↔ (¬ Q)
+layer_holds (Ok a) Q h q = absurd h
+layer_holds (Err f) Q h q = ((λ k. absurd (let j : f ≡ NoLayer = cc in cc)), λ n. absurd (n q))
 
 -- a layer that is not there is told so, and one that was found is not told missing
 pub layer_missing : {A : Type 0} (Q : Type 0) → (¬ Q) → (◌≡◌ {A = Result A QueryFault} (Err NoLayer) (Err NoLayer)) ↔ (¬ Q)

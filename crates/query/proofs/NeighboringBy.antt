@@ -69,13 +69,13 @@ module _ (m : Layers) (t : TopologyParts) (of : IsOf m t) (name : List ℕ) (gs 
     differ i j a b at at' apart =
         let (g, here, of_a) = geometry_at m t of name gs under i a at in
         let (h, there, of_b) = geometry_at m t of name gs under j b at' in
-        let told = classed.exact i j (class_at cs i) (class_at cs j) (value_text property g.props) (value_text property h.props)
+        let meant = classed.exact i j (class_at cs i) (class_at cs j) (value_text property g.props) (value_text property h.props)
         (value_at i g here) (value_at j h there) (its_class i g here) (its_class j h there) in (
           (λ n. record {
             apart = λ q. apart (one_index i j a at (at' ∙ ap Some (sym q)));
-            unlike = λ o. n (told.1 (inr (o.0, its_value a g of_a ∙ o.1, its_value b h of_b ∙ o.2)));
+            unlike = λ o. n (meant.1 (inr (o.0, its_value a g of_a ∙ o.1, its_value b h of_b ∙ o.2)));
           }),
-          (λ d e. elim (told.0 e) [
+          (λ d e. elim (meant.0 e) [
             | inl q ↦ apart q
             | inr o ↦ d.unlike (o.0, sym (its_value a g of_a) ∙ o.1, sym (its_value b h of_b) ∙ o.2)
           ]),

@@ -30,10 +30,10 @@ use Rattle.query.proofs.Texts.{features_same}
 pub contains_entry : (m : Layers) (e : List ℕ × Features) → Has e (map.entries m) → map.contains_key m e.0 ≡ true
 contains_entry m e h = ap is_some (map.get-entries m e.0 ∙ found (slice_cmp nat_cmp) nat_list_cmp_total (map.entries m) (map.entries_sorted m) e h)
 
-told_equal : (r : Ordering) → is_eq r ≡ true → r ≡ Equal
-told_equal Less e = cc
-told_equal Equal e = refl
-told_equal Greater e = cc
+if_equal : (r : Ordering) → is_eq r ≡ true → r ≡ Equal
+if_equal Less e = cc
+if_equal Equal e = refl
+if_equal Greater e = cc
 
 entry_there : (es : List (List ℕ × Features)) (q : List ℕ) → is_some (map.find (slice_cmp nat_cmp) q es) ≡ true → (e : List ℕ × Features) × Has e es × (q ≡ e.0)
 entry_there [] q h = absurd cc
@@ -42,7 +42,7 @@ entry_there (d ∷ es) q h = go (is_eq (slice_cmp nat_cmp q d.0)) refl h (entry_
     go : (b : Bool) → is_eq (slice_cmp nat_cmp q d.0) ≡ b → is_some (cond b (Some d.1) (map.find (slice_cmp nat_cmp) q es)) ≡ true →
         (is_some (map.find (slice_cmp nat_cmp) q es) ≡ true → (e : List ℕ × Features) × Has e es × (q ≡ e.0)) →
         (e : List ℕ × Features) × Has e (d ∷ es) × (q ≡ e.0)
-    go true p k ih = (d, inl refl, same_text q d.0 (told_equal (slice_cmp nat_cmp q d.0) p))
+    go true p k ih = (d, inl refl, same_text q d.0 (if_equal (slice_cmp nat_cmp q d.0) p))
     go false p k ih = let t = ih k in (t.0, inr t.1, t.2)
 
 -- ---- layers

@@ -17,8 +17,8 @@ step_there s x y e =
     let t = both_true (position_eq s.from x) (position_eq s.to y) e in
     (position_true s.from x t.0, position_true s.to y t.1)
 
-step_told : (s : ArcStep) (x y : Pos) → s.from ≡ x → s.to ≡ y → is_step s x y ≡ true
-step_told s x y e f =
+step_means : (s : ArcStep) (x y : Pos) → s.from ≡ x → s.to ≡ y → is_step s x y ≡ true
+step_means s x y e f =
     (λ i. position_eq s.from (sym e i) && position_eq s.to (sym f i)) ∙ ap (λ b. b && position_eq s.to s.to) (position_refl s.from) ∙ position_refl s.to
 
 pub parted : (s : ArcStep) (x : Pos) (l : List Pos) → Steps s.from s.to (x ∷ l) → (before : List Pos) × IsParted s x l before
@@ -32,6 +32,6 @@ parted s x (y ∷ l) h = let t = go (is_step s x y) refl (parted s y l) in (t.0,
         let t = step_there s x y e in
         ([], (λ i. sym t.0 i ∷ (sym t.1 i ∷ l)), ap (λ w. w ∷ []) (sym t.0))
     go false e ih = elim h [
-      | inl k ↦ absurd (let c : true ≡ false = sym (step_told s x y k.0 k.1) ∙ e in cc)
+      | inl k ↦ absurd (let c : true ≡ false = sym (step_means s x y k.0 k.1) ∙ e in cc)
       | inr k ↦ let t = ih k in (x ∷ t.0, ap (λ w. x ∷ w) t.1.whole, ap (λ w. x ∷ w) t.1.front)
     ]

@@ -9,7 +9,7 @@ use Rattle.theory.specs.Geometry.{Geometry, IsSound}
 use Rattle.theory.specs.Lists.{Has}
 use Rattle.theory.specs.Segments.{OnTwo, TwoSegments}
 use Rattle.theory.proofs.Lists.{Has-append, Has-append_left, Has-append_right}
-use Rattle.lines.specs.ByVertex.{StandByVertex, count_at}
+use Rattle.lines.specs.ByVertex.{AreByVertex, count_at}
 use Rattle.lines.specs.Turned.{position_cmp}
 use Rattle.grid.specs.declared.pos.Pos.{Pos}
 use Rattle.lines.specs.Pairs.{position_eq}
@@ -18,7 +18,7 @@ use Rattle.arcs.specs.Arcs.{Arcs}
 use Rattle.chains.specs.Joined.{StopAt}
 use Rattle.arcs.specs.Table.{IsTableOf}
 use Rattle.lines.proofs.Positions.{position_apart, position_decide, position_true, tied_position, true_false, true_position}
-use Rattle.lines.proofs.ByVertex.{behind_at, here_at, sorted_stand, stand_behind}
+use Rattle.lines.proofs.ByVertex.{behind_at, here_at, sorted_hold, are_behind}
 use Rattle.lines.proofs.SortedLists.{Has-permutation}
 use Rattle.arcs.specs.declared.step.ArcStep.{ArcStep}
 use Rattle.query.specs.declared.stops.Sides.{Sides}
@@ -94,11 +94,11 @@ Means-here first here at =
 pub record Judging (ends left : List ArcStep) (stops : List Pos) : Type 0 where
   pub done : List ArcStep
   pub is : ends ≡ done ++ left
-  pub stand : StandByVertex vertex_of left
+  pub stand : AreByVertex vertex_of left
   pub other : (x y : ArcStep) → Has x done → Has y left → ¬ (x.from ≡ y.from)
   pub judged : AreJudged done stops
 
-pub judging_starts : (ends : List ArcStep) (stops : List Pos) → stops ≡ [] → StandByVertex vertex_of ends → Judging ends ends stops
+pub judging_starts : (ends : List ArcStep) (stops : List Pos) → stops ≡ [] → AreByVertex vertex_of ends → Judging ends ends stops
 judging_starts ends stops e g = record {
   done = [];
   is = refl;
@@ -172,7 +172,7 @@ module _ (ends : List ArcStep) (first : ArcStep) (here behind : List ArcStep) (s
   advance = record {
     done = now;
     is = p.is ∙ sym (append_assoc p.done (first ∷ here) behind);
-    stand = stand_behind vertex_of (first ∷ here) behind p.stand;
+    stand = are_behind vertex_of (first ∷ here) behind p.stand;
     other = λ x y h i. elim (Has-append x p.done (first ∷ here) h) [
       | inl j ↦ p.other x y j (in_behind y i)
       | inr j ↦ (λ k. past y i (sym k ∙ at_first x j))
@@ -186,7 +186,7 @@ pub judging_step : (ends left others : List ArcStep) (first : ArcStep) (n : ℕ)
     Judging ends left stops → Judging ends behind new
 judging_step ends left others first n here behind s stops new l c h b is made p =
     let split : others ≡ here ++ behind = sym (take-append-drop n others) ∙ (λ i. sym h i ++ sym b i) in
-    let stand : StandByVertex vertex_of (first ∷ others) = subst (StandByVertex vertex_of) l p.stand in
+    let stand : AreByVertex vertex_of (first ∷ others) = subst (AreByVertex vertex_of) l p.stand in
     advance ends first here behind stops new (subst (λ w. Judging ends w stops) (l ∙ ap (λ w. first ∷ w) split) p)
     (λ x k. here_at vertex_of first.from others x (subst (Has x) (h ∙ ap (λ m. take m others) c) k))
     (λ x k. behind_at vertex_of first.from others stand.0 stand.1 x (subst (Has x) (b ∙ ap (λ m. drop m others) c) k))
@@ -205,7 +205,7 @@ module _ (S : Pos → Pos → Type 0) (ends : List ArcStep) (stops : List Pos)
   stops_meet : TwoSegments S (StopAt stops)
   stops_meet v w free s = elim (others v w s) [
     | inr t ↦ t
-    | inl k ↦ elim (judged v) [ inl none ↦ absurd (none.0 w k) | inr told ↦ go k told.0 told.1 (λ h. free (sym told.2 ∙ h)) ]
+    | inl k ↦ elim (judged v) [ inl none ↦ absurd (none.0 w k) | inr meant ↦ go k meant.0 meant.1 (λ h. free (sym meant.2 ∙ h)) ]
   ]
     where
       go : Has (step v w) ends → (t : Sides) → Means t (λ p. Has (step v p) ends) → ¬ (halts t ≡ true) → OnTwo S v
@@ -215,7 +215,7 @@ module _ (S : Pos → Pos → Type 0) (ends : List ArcStep) (stops : List Pos)
 
   -- a stop lies on one segment, or on three or more
   stops_lie : (v : Pos) → StopAt stops v → OnOne S v ⊎ OnThreeOf S v
-  stops_lie v k = elim (judged v) [ inl none ↦ absurd (true_false (among stops v) k none.1) | inr told ↦ go told.0 told.1 (told.2 ∙ k) ]
+  stops_lie v k = elim (judged v) [ inl none ↦ absurd (true_false (among stops v) k none.1) | inr meant ↦ go meant.0 meant.1 (meant.2 ∙ k) ]
     where
       go : (t : Sides) → Means t (λ p. Has (step v p) ends) → halts t ≡ true → OnOne S v ⊎ OnThreeOf S v
       go (One a) m n = inl (a, on v a m.0, λ p h. m.1 p (all v a p m.0 h))
@@ -300,10 +300,10 @@ are_halts g sound t table ks ends sorted has moved stops judged = record {
     others v w s = elim (end_or_two g sound t table ks v w s) [ inl h ↦ inl (to v w ((has v w).1 h)) | inr h ↦ inr h ]
 
 -- in the form of the code
-pub stops_told : {E : Type 0} (t : Arcs) (ks : List ℕ) (ends sorted slice : List ArcStep) (r : Result (Vec Pos) E) →
-    HasEnds t.arcs ks ends → IsPermutation ends sorted → IsSorted by_vertex sorted → slice ≡ sorted → IfOk r (λ s. StandByVertex vertex_of slice → AreJudged slice s.items) →
+pub stops_means : {E : Type 0} (t : Arcs) (ks : List ℕ) (ends sorted slice : List ArcStep) (r : Result (Vec Pos) E) →
+    HasEnds t.arcs ks ends → IsPermutation ends sorted → IsSorted by_vertex sorted → slice ≡ sorted → IfOk r (λ s. AreByVertex vertex_of slice → AreJudged slice s.items) →
     IfOk r (λ s. (g : Geometry Pos) → IsSound g → IsTableOf g t → AreHalts t.arcs ks s.items)
-stops_told t ks ends sorted slice (Ok s) has moved order e judged = λ g sound table.
+stops_means t ks ends sorted slice (Ok s) has moved order e judged = λ g sound table.
     are_halts g sound t table ks ends sorted has moved s.items
-    (subst (λ w. StandByVertex vertex_of w → AreJudged w s.items) e judged (sorted_stand vertex_of sorted order))
-stops_told t ks ends sorted slice (Err f) has moved order e judged = tt
+    (subst (λ w. AreByVertex vertex_of w → AreJudged w s.items) e judged (sorted_hold vertex_of sorted order))
+stops_means t ks ends sorted slice (Err f) has moved order e judged = tt

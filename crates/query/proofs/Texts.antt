@@ -26,7 +26,7 @@ use Rattle.topo.proofs.Walks.{walked_stitched}
 use Rattle.query.specs.ByArcs.{turned_at, line_along, ring_along, body_text, geom_text}
 use Rattle.query.specs.Steps.{least_step, behind_step, up_to_step}
 use Rattle.arcs.specs.declared.step.ArcStep.{ArcStep}
-use Rattle.query.proofs.Turns.{begun_at, turned_back}
+use Rattle.query.proofs.Turns.{started_at, turned_back}
 
 -- ---- lists whose members have the same texts, index by index
 
@@ -55,8 +55,8 @@ commas_append f (x ∷ xs) ys = ap (λ w. after_comma f x ++ w) (commas_append f
 line_same : (t : TopologyParts) (l : List Pos) (used : List ArcRef) → StitchTo t.arcs.arcs used l → line_text t.grid l ≡ line_along t used
 line_same t l used h = ap (list_text (place_text t.grid)) (sym (walked_stitched t.arcs.arcs used l h))
 
-begun_text : (g : Transform) (s : ArcStep) (w : List Pos) → turned_at g w (Some s) ≡ joined (place_text g) (begun_at s w)
-begun_text g s w =
+started_text : (g : Transform) (s : ArcStep) (w : List Pos) → turned_at g w (Some s) ≡ joined (place_text g) (started_at s w)
+started_text g s w =
     let behind : List ℕ = after_commas (place_text g) (behind_step s w) in
     let up_to : List ℕ = after_commas (place_text g) (up_to_step s w) in
     ap (λ l. place_text g s.from ++ l)
@@ -71,8 +71,8 @@ ring_same t J r used (x, l, turned, stitched) =
     sym (ap bracketed
     (ap (λ w. turned_at t.grid w (least_step w)) (walked_stitched t.arcs.arcs used (closed f) stitched)
     ∙ ap (turned_at t.grid (closed f)) k.is
-    ∙ begun_text t.grid k.least (closed f)
-    ∙ ap (joined (place_text t.grid)) k.begun))
+    ∙ started_text t.grid k.least (closed f)
+    ∙ ap (joined (place_text t.grid)) k.started))
 
 lines_same : (t : TopologyParts) (ls : List the_line.Line) (ks : List (List ArcRef)) → Pairwise (λ l used. StitchTo t.arcs.arcs used l) (map_list seen_by.line_of ls) ks →
     list_text (λ l. line_text t.grid (positions_of l)) ls ≡ list_text (line_along t) ks

@@ -63,22 +63,22 @@ snoc_same a b x y e =
     (f, one_head x y (append_cancel b (x ∷ []) (y ∷ []) (ap (λ w. w ++ (x ∷ [])) (sym f) ∙ e)))
 
 -- a list begun at a step that stands in it
-abbrev pub begun_at : ArcStep → List Pos → List Pos
-begun_at s w = s.from ∷ (s.to ∷ (behind_step s w ++ up_to_step s w))
+abbrev pub started_at : ArcStep → List Pos → List Pos
+started_at s w = s.from ∷ (s.to ∷ (behind_step s w ++ up_to_step s w))
 
 -- how the closed list of a ring is begun at its least step
-pub record IsBegun (f : List Pos) (s : ArcStep) (r : List Pos) : Type 0 where
+pub record IsStarted (f : List Pos) (s : ArcStep) (r : List Pos) : Type 0 where
   pub rotation : IsRotation f r
-  pub begun : begun_at s (closed f) ≡ closed r
+  pub started : started_at s (closed f) ≡ closed r
   pub least : (m : List Pos) → IsRotation f m → AtMost (slice_cmp position_cmp) r m
 
 take_seam : (a b : List Pos) → take (length a) (a ++ b) ≡ a
 take_seam [] b = refl
 take_seam (x ∷ a) b = ap (λ w. x ∷ w) (take_seam a b)
 
-begun : (x : Pos) (l : List Pos) (m : ArcStep) → IsRing (x ∷ l) → Steps m.from m.to (closed (x ∷ l)) →
-    ((u v : Pos) → Steps u v (closed (x ∷ l)) → AtMost step_cmp m (step u v)) → (r : List Pos) × IsBegun (x ∷ l) m r
-begun x l m ring there least = (r, record { rotation = turned; begun = is; least = first })
+started : (x : Pos) (l : List Pos) (m : ArcStep) → IsRing (x ∷ l) → Steps m.from m.to (closed (x ∷ l)) →
+    ((u v : Pos) → Steps u v (closed (x ∷ l)) → AtMost step_cmp m (step u v)) → (r : List Pos) × IsStarted (x ∷ l) m r
+started x l m ring there least = (r, record { rotation = turned; started = is; least = first })
   where
     f : List Pos
     f = x ∷ l
@@ -109,7 +109,7 @@ begun x l m ring there least = (r, record { rotation = turned; begun = is; least
     turned : IsRotation f r
     turned = (b, m.from ∷ t, ends.0, refl)
 
-    is : begun_at m (closed f) ≡ closed r
+    is : started_at m (closed f) ≡ closed r
     is =
         ap (λ w. m.from ∷ (w ++ up_to_step m (closed f))) (front_last m.to c ∙ ap (λ z. t ++ (z ∷ [])) (sym ends.1))
         ∙ ap (λ w. m.from ∷ w) (append_assoc t (x ∷ []) (up_to_step m (closed f)) ∙ ap (λ w. t ++ w) at.1.front ∙ sym (append_assoc t b (m.from ∷ [])))
@@ -143,7 +143,7 @@ begun x l m ring there least = (r, record { rotation = turned; begun = is; least
 pub record IsTurnedBack (r f : List Pos) : Type 0 where
   pub least : ArcStep
   pub is : least_step (closed f) ≡ Some least
-  pub begun : begun_at least (closed f) ≡ closed r
+  pub started : started_at least (closed f) ≡ closed r
 
 -- a ring's closed list, begun at any of its vertices, is turned back
 pub turned_back : (r : the_ring.Ring) (f : List Pos) → IsRotation (vertices_of r) f → IsTurnedBack (vertices_of r) f
@@ -152,7 +152,7 @@ turned_back r f q = go f (rotation_ring (vertices_of r) f q r.ring) q
     go : (f : List Pos) → IsRing f → IsRotation (vertices_of r) f → IsTurnedBack (vertices_of r) f
     go [] k q = absurd (let n : 3 ≤ 0 = k.long in omega arith)
     go (x ∷ []) k q = absurd (let n : 3 ≤ 1 = k.long in omega arith)
-    go (x ∷ (y ∷ l)) k q = record { least = m; is = refl; begun = b.1.begun ∙ ap closed same }
+    go (x ∷ (y ∷ l)) k q = record { least = m; is = refl; started = b.1.started ∙ ap closed same }
       where
         m : ArcStep
         m = least_from step (step x y) y (l ++ (x ∷ []))
@@ -160,9 +160,9 @@ turned_back r f q = go f (rotation_ring (vertices_of r) f q r.ring) q
         t : IsLeastFrom step (step x y) (y ∷ (l ++ (x ∷ []))) m
         t = least_along step (step x y) y (l ++ (x ∷ []))
 
-        b : (p : List Pos) × IsBegun (x ∷ (y ∷ l)) m p
+        b : (p : List Pos) × IsStarted (x ∷ (y ∷ l)) m p
         b =
-            begun x (y ∷ l) m k (elim t.found [
+            started x (y ∷ l) m k (elim t.found [
               | inl e ↦ inl (ap (λ w. w.from) e, ap (λ w. w.to) e)
               | inr h ↦ inr (subst (λ w. Steps w.from w.to (y ∷ (l ++ (x ∷ [])))) (sym h.3) h.2)
             ])

@@ -35,7 +35,7 @@ use Rattle.topo.specs.Parts.{LayerParts, TopologyParts}
 use Rattle.topo.specs.Bodies.{Body}
 use Rattle.shapes.specs.declared.form.Form.TheVariants as of
 use Rattle.topo.specs.declared.geom.Geom.{Geom}
-use Rattle.topo.proofs.FeatureOrder.{features_stand}
+use Rattle.topo.proofs.FeatureOrder.{features_hold}
 use Rattle.topo.proofs.Sound.{are_sound}
 use Rattle.topo.proofs.Stitched.{feature_of}
 use Rattle.query.specs.ByProperty.{AreClasses, AreDividing, AreOneValue, Differ, class_uses, value_text, values_of}
@@ -175,15 +175,15 @@ has_number e (w ∷ os) n (suc i) o h a =
     Has-append_right (n + suc i) (number_if e n w) (numbers_from e (n + 1) os) (subst (λ j. Has j (numbers_from e (n + 1) os)) k (has_number e os (n + 1) i o h a))
 
 -- whether two numbers are one, where that tells P
-told_one : (x y : ℕ) (P : Type 0) → (x ≡ y) ↔ P → IsTrue (x == y) ↔ P
-told_one x y P (to, from) = go (x == y) refl
+one_says : (x y : ℕ) (P : Type 0) → (x ≡ y) ↔ P → IsTrue (x == y) ↔ P
+one_says x y P (to, from) = go (x == y) refl
   where
     go : (t : Bool) → (x == y) ≡ t → IsTrue t ↔ P
     go true e = ((λ h. to (same_number x y true e refl)), λ p. refl)
     go false e = ((λ h. absurd cc), λ p. absurd (other_number x y false e refl (from p)))
 
-told_apart : (x y : ℕ) (P : Type 0) → (x ≡ y) ↔ P → IsTrue (not (x == y)) ↔ (¬ P)
-told_apart x y P (to, from) = go (x == y) refl
+if_apart : (x y : ℕ) (P : Type 0) → (x ≡ y) ↔ P → IsTrue (not (x == y)) ↔ (¬ P)
+if_apart x y P (to, from) = go (x == y) refl
   where
     go : (t : Bool) → (x == y) ≡ t → IsTrue (not t) ↔ (¬ P)
     go true e = ((λ h. absurd cc), λ n. absurd (n (to (same_number x y true e refl))))
@@ -192,8 +192,8 @@ told_apart x y P (to, from) = go (x == y) refl
 -- edges answer to the features with a segment as they ask for its arc
 answered : (e : Edges) (s : Span) (a b : Feature) → (s.least ≡ s.greatest) ↔ (a ≡ b) → Answers e a b (asks_for_users e s)
 answered All s a b h = refl
-answered Interior s a b h = told_apart s.least s.greatest (a ≡ b) h
-answered Exterior s a b h = told_one s.least s.greatest (a ≡ b) h
+answered Interior s a b h = if_apart s.least s.greatest (a ≡ b) h
+answered Exterior s a b h = one_says s.least s.greatest (a ≡ b) h
 
 module _ (m : Layers) (t : TopologyParts) (of_map : IsOf m t) where
   abbrev LineList : List Pos → List ArcRef → Type 0
@@ -253,8 +253,8 @@ module _ (m : Layers) (t : TopologyParts) (of_map : IsOf m t) where
     pairs = gathered (layer_pairs m) ls
 
     -- the geometry at the index is of the feature
-    abbrev StandsAt : ℕ → Feature → Type 0
-    StandsAt p f = (g : Geom) × (slice_get gs p ≡ Some g) × OfFeature m t of_map f g
+    abbrev OccursAt : ℕ → Feature → Type 0
+    OccursAt p f = (g : Geom) × (slice_get gs p ≡ Some g) × OfFeature m t of_map f g
 
     -- the feature at the index uses the arc
     abbrev UsesAt : ℕ → ℕ → Type 0
@@ -267,21 +267,21 @@ module _ (m : Layers) (t : TopologyParts) (of_map : IsOf m t) where
     layer_features l there = (named_features m t of_map (spelled_text l.name) l.geometries (l, scope_layers t scope ls layers l there, refl, refl)).1
 
     -- at an index stands one feature
-    one_feature : (p : ℕ) (f h : Feature) → StandsAt p f → StandsAt p h → f ≡ h
+    one_feature : (p : ℕ) (f h : Feature) → OccursAt p f → OccursAt p h → f ≡ h
     one_feature p f h (g, at, is) (k, at', is') =
         let same : Some k ≡ Some g = sym at' ∙ at in
         let one : k ≡ g = cc in
         let stitched = feature_of (JunctionOf (geometry_of m)) t.arcs.arcs f g is in
         let also = feature_of (JunctionOf (geometry_of m)) t.arcs.arcs h g (subst (OfFeature m t of_map h) one is') in
-        same_feature f h (features_stand t.arcs.arcs f h g g stitched also ∙ sym (features_stand t.arcs.arcs f f g g stitched stitched) ∙ tied_itself feature_cmp_total f)
+        same_feature f h (features_hold t.arcs.arcs f h g g stitched also ∙ sym (features_hold t.arcs.arcs f f g g stitched stitched) ∙ tied_itself feature_cmp_total f)
 
     -- and a feature stands at one index
-    one_index : (p q : ℕ) (f : Feature) → StandsAt p f → StandsAt q f → p ≡ q
+    one_index : (p q : ℕ) (f : Feature) → OccursAt p f → OccursAt q f → p ≡ q
     one_index p q f (g, at, is) (k, at', is') =
         let same : k ≡ g = one_geometry f k g is' is in
         each.once p q g at (at' ∙ ap Some same)
 
-    use_from : (k p : ℕ) → UsesAt k p → (f : Feature) × (b : Body) × Has (f, b) pairs × UsesArc k (body_of b) × StandsAt p f
+    use_from : (k p : ℕ) → UsesAt k p → (f : Feature) × (b : Body) × Has (f, b) pairs × UsesArc k (body_of b) × OccursAt p f
     use_from k p h =
         let (n, b, at, is, used) = bodies_from (map_list (λ g. body_of g.body) gs) 0 (use_at k p) h in
         let (g, there, same) = body_at gs n b at in
@@ -290,7 +290,7 @@ module _ (m : Layers) (t : TopologyParts) (of_map : IsOf m t) where
         let index : n ≡ p = omega (arith, is) in
         (f, g.body, Has-gathered (layer_pairs m) ls l (f, g.body) layer beside, subst (λ w. UsesArc k w) same used, (g, subst (λ j. slice_get gs j ≡ Some g) index there, of_feature))
 
-    use_to : (k : ℕ) (f : Feature) (b : Body) → Has (f, b) pairs → UsesArc k (body_of b) → (p : ℕ) × UsesAt k p × StandsAt p f
+    use_to : (k : ℕ) (f : Feature) (b : Body) → Has (f, b) pairs → UsesArc k (body_of b) → (p : ℕ) × UsesAt k p × OccursAt p f
     use_to k f b h used =
         let (l, layer, beside) = gathered_from (layer_pairs m) ls (f, b) h in
         let (g, within, is, of_feature) = pair_body (set.items (features_at m (spelled_text l.name))) l.geometries (layer_features l layer) f b beside in
@@ -336,7 +336,7 @@ module _ (m : Layers) (t : TopologyParts) (of_map : IsOf m t) where
     -- the first and the last user of an arc are one where the least and the greatest feature with its segments are
     module _ (k : ℕ) (c : List Pos) (u v : Pos) (e : slice_get t.arcs.arcs k ≡ Some c) (side : Beside u v c) (s : Span) (means : Spans (Some s) (UsesAt k))
         (a b : Feature) (la : IsLeastWith In u v a) (lb : IsGreatestWith In u v b) where
-      its_use : (f : Feature) → In f → HasSide u v f → (p : ℕ) × UsesAt k p × StandsAt p f
+      its_use : (f : Feature) → In f → HasSide u v f → (p : ℕ) × UsesAt k p × OccursAt p f
       its_use f i h = let (d, there) = are.all f i in use_to k f d there ((has_uses f d there k c u v e side).0 h)
 
       one_user : s.least ≡ s.greatest → a ≡ b
@@ -346,16 +346,16 @@ module _ (m : Layers) (t : TopologyParts) (of_map : IsOf m t) where
           let (l, g) = means.2 p uses in
           let (l', g') = means.2 r uses' in
           let same : p ≡ r = omega (arith, q, l, g, l', g') in
-          one_feature r a b (subst (λ n. StandsAt n a) same stands) stands'
+          one_feature r a b (subst (λ n. OccursAt n a) same stands) stands'
 
-      alone : a ≡ b → (p : ℕ) → UsesAt k p → StandsAt p a
+      alone : a ≡ b → (p : ℕ) → UsesAt k p → OccursAt p a
       alone q p uses =
           let (f, d, there, used, stands) = use_from k p uses in
           let within = (are.only f d there).0 in
           let has = (has_uses f d there k c u v e side).1 used in
           let same : f ≡ a =
           at_most_same feature_cmp feature_cmp_total same_feature f a (subst (λ w. AtMost feature_cmp f w) (sym q) (lb.greatest f within has)) (la.least f within has) in
-          subst (StandsAt p) same stands
+          subst (OccursAt p) same stands
 
       ends_agree : (s.least ≡ s.greatest) ↔ (a ≡ b)
       ends_agree = (one_user, λ q. one_index s.least s.greatest a (alone q s.least means.0) (alone q s.greatest means.1))
@@ -487,7 +487,7 @@ module _ (m : Layers) (t : TopologyParts) (of_map : IsOf m t) where
           go k c e side (Some s) means asked =
               let (i, g, a, at, there, of_a, in_a, has_a) = user k c u v e side s.least means.0 in
               let (j, h, b, at', there', of_b, in_b, has_b) = user k c u v e side s.greatest means.1 in
-              (a, b, in_a, in_b, has_a, has_b, (differ i j s.least s.greatest g h a b there there' at at' of_a of_b).0 ((told_apart s.least s.greatest (s.least ≡ s.greatest) ((λ q. q), λ q. q)).0 asked))
+              (a, b, in_a, in_b, has_a, has_b, (differ i j s.least s.greatest g h a b there there' at at' of_a of_b).0 ((if_apart s.least s.greatest (s.least ≡ s.greatest) ((λ q. q), λ q. q)).0 asked))
 
       -- a feature's geometry uses the arc, by its class
       its_class : (f : Feature) → In f → (k : ℕ) (c : List Pos) (u v : Pos) → slice_get t.arcs.arcs k ≡ Some c → Beside u v c → HasSide u v f →
@@ -519,7 +519,7 @@ module _ (m : Layers) (t : TopologyParts) (of_map : IsOf m t) where
           go k c e side p q apart used used' None here means = absurd (means p used)
           go k c e side p q apart used used' (Some s) here means =
               let wide : ¬ (s.least ≡ s.greatest) = λ w. let (l, g) = means.2 p used in let (l', g') = means.2 q used' in apart (omega (arith, w, l, g, l', g')) in
-              let asked = (told_apart s.least s.greatest (s.least ≡ s.greatest) ((λ r. r), λ r. r)).1 wide in
+              let asked = (if_apart s.least s.greatest (s.least ≡ s.greatest) ((λ r. r), λ r. r)).1 wide in
               (has u v).1 (arc_on t.arcs.arcs (numbers_from Interior 0 class_spans) u v k c
               (subst (λ j. Has j (numbers_from Interior 0 class_spans)) (number k) (has_number Interior class_spans 0 k (Some s) here asked)) e
               (beside_sides c u v (beside_differ c (of_map.table.once.one_place c (get_has t.arcs.arcs k c e)) u v side) side))
@@ -530,10 +530,10 @@ module _ (m : Layers) (t : TopologyParts) (of_map : IsOf m t) where
 -- in the form of the code
 pub borders_selected : (m : Layers) (t : TopologyParts) (of_map : IsOf m t) (scope : Option (List ℕ)) (ls : List LayerParts) → AreLayersIn t scope ls → (kept : List Geom) →
     AreEachOnce (gathered (λ l. l.geometries) ls) kept → (gs : List Geom) → gs ≡ kept → (us : List Use) → us ≡ geometries_uses gs → (slice : List Use) → slice ≡ us →
-    (n : ℕ) → n ≡ length t.arcs.arcs → (told : List (Option Span)) → told ≡ with_uses (replicate n None) slice → (same : List (Option Span)) → same ≡ told →
+    (n : ℕ) → n ≡ length t.arcs.arcs → (meant : List (Option Span)) → meant ≡ with_uses (replicate n None) slice → (same : List (Option Span)) → same ≡ meant →
     (edges : Edges) (asked : List ℕ) → asked ≡ numbers_from edges 0 same → (these : List ℕ) → these ≡ asked →
     (segs : List Segment) → HasArcs t.arcs.arcs these segs → AreSelected (InScope m scope) (Answers edges) segs
-borders_selected m t of_map scope ls layers kept each gs one us uses slice two n count told spanned same three edges asked numbers these four segs has =
+borders_selected m t of_map scope ls layers kept each gs one us uses slice two n count meant spanned same three edges asked numbers these four segs has =
     let made : same ≡ with_uses (replicate (length t.arcs.arcs) None) (geometries_uses kept) =
     three ∙ spanned ∙ (λ i. with_uses (replicate (count i) None) ((two ∙ uses ∙ ap geometries_uses one) i)) in
     asked_selected m t of_map scope ls layers kept each edges segs (subst (λ w. HasArcs t.arcs.arcs w segs) (four ∙ numbers ∙ ap (numbers_from edges 0) made) has)
@@ -541,10 +541,10 @@ borders_selected m t of_map scope ls layers kept each gs one us uses slice two n
 pub borders_dividing : (m : Layers) (t : TopologyParts) (of_map : IsOf m t) (scope : Option (List ℕ)) (ls : List LayerParts) → AreLayersIn t scope ls → (kept : List Geom) →
     AreEachOnce (gathered (λ l. l.geometries) ls) kept → (name : List ℕ) (gs : List Geom) → gs ≡ kept → (cs : List ℕ) → AreClasses (values_of name gs) cs →
     (others : List Geom) → others ≡ kept → (classes : List ℕ) → classes ≡ cs → (us : List Use) → us ≡ class_uses classes others → (slice : List Use) → slice ≡ us →
-    (n : ℕ) → n ≡ length t.arcs.arcs → (told : List (Option Span)) → told ≡ with_uses (replicate n None) slice → (same : List (Option Span)) → same ≡ told →
+    (n : ℕ) → n ≡ length t.arcs.arcs → (meant : List (Option Span)) → meant ≡ with_uses (replicate n None) slice → (same : List (Option Span)) → same ≡ meant →
     (asked : List ℕ) → asked ≡ numbers_from Interior 0 same → (these : List ℕ) → these ≡ asked →
     (segs : List Segment) → HasArcs t.arcs.arcs these segs → AreDividing (InScope m scope) name segs
-borders_dividing m t of_map scope ls layers kept each name gs one cs classed others other classes class us uses slice two n count told spanned same three asked numbers these four segs has =
+borders_dividing m t of_map scope ls layers kept each name gs one cs classed others other classes class us uses slice two n count meant spanned same three asked numbers these four segs has =
     let made : same ≡ with_uses (replicate (length t.arcs.arcs) None) (class_uses cs kept) =
     three ∙ spanned ∙ (λ i. with_uses (replicate (count i) None) ((two ∙ uses ∙ (λ j. class_uses (class j) (other j))) i)) in
     are_dividing m t of_map scope ls layers kept each name cs (subst (λ w. AreClasses (values_of name w) cs) one classed) segs

@@ -2,7 +2,7 @@
 ghost use Rattle.arcs.specs.Among.{among};
 ghost use Rattle.arcs.specs.Table.{IsTableOf};
 ghost use Rattle.grid.specs.declared.pos.Pos.{Pos};
-ghost use Rattle.lines.specs.ByVertex.{StandByVertex, count_at};
+ghost use Rattle.lines.specs.ByVertex.{AreByVertex, count_at};
 ghost use Rattle.query.specs.Ends.{by_vertex, vertex_of};
 ghost use Rattle.query.specs.Stops.{AreHalts, AreJudged, halts, sided, sides_at, stop_step};
 ghost use Rattle.std.specs.List.Sorted.{IsPermutation, IsSorted};
@@ -94,7 +94,7 @@ fn add_stop(stops: &mut Vec<Pos>, vertex: Pos, sides: Sides) -> Result<(), Alloc
 
 /// The vertices of ends, which are vertex by vertex, that do not lie on two segments.
 fn stops_by(alloc: Global, ends: &[ArcStep]) -> Result<Vec<Pos>, AllocError>
-    ensures { IfOk result (λ s. StandByVertex vertex_of ends.now → AreJudged ends.now s.items) }
+    ensures { IfOk result (λ s. AreByVertex vertex_of ends.now → AreJudged ends.now s.items) }
 {
     let mut stops = Vec::new(alloc);
     let mut left = ends;

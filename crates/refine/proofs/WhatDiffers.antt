@@ -33,7 +33,7 @@ use Rattle.topo.specs.GeometryOrder.{HaveFeatures, LayersHaveFeatures, geometry_
 use Rattle.topo.specs.OfMap.{IsOf}
 use Rattle.topo.specs.Parts.{LayerParts, TopologyParts}
 use Rattle.topo.specs.declared.geom.Geom.{Geom}
-use Rattle.topo.proofs.FeatureOrder.{features_stand}
+use Rattle.topo.proofs.FeatureOrder.{features_hold}
 use Rattle.topo.proofs.Pairs.{Pairwise-same}
 use Rattle.topo.proofs.Sound.{are_sound}
 use Rattle.topo.proofs.Stitched.{IsEntryOf, entries_of, feature_of}
@@ -44,7 +44,7 @@ use Rattle.topo.proofs.LayerLawsLemmas.Ascending.{keys_ascend}
 use Rattle.topo.proofs.LayerLawsLemmas.JoinedLayers.{IsJoinedLayer, IsNewFor}
 use Rattle.topo.proofs.LayerLawsLemmas.JoinedPairs.{cut_layers, layers_have}
 use Rattle.topo.proofs.LayerLawsLemmas.MergedSets.{all_weaker, picked}
-use Rattle.topo.proofs.LayerLawsLemmas.Passing.{order_told}
+use Rattle.topo.proofs.LayerLawsLemmas.Passing.{order_means}
 use Rattle.topo.proofs.LayerLawsLemmas.RecutGeometries.{IsLayerRecut, IsRecutFor}
 use Rattle.topo.proofs.LayerLawsLemmas.UnitedGeometry.{geometries_unite}
 use Rattle.refine.specs.Difference.{HaveRecut, LayersHaveRecut, by_lists, cut_again, geometries_in, layer_without, layers_without}
@@ -306,7 +306,7 @@ module _ (m n : Layers) (left right : TopologyParts) (r : RecutParts) (ks : List
   agrees : (f : Feature) (g : Geom) → IsFeatureOf left.arcs.arcs f g → IsRecutFor J table r.left f g → (s : Feature) (h : Geom) → IsNewFor J table s h →
       by_lists r g h ≡ order_to left.arcs.arcs g s
   agrees f g old new s h of =
-      sym (features_stand table f s (cut_again r g) h (feature_of J table f (cut_again r g) new) (feature_of J table s h of)) ∙ order_told left.arcs.arcs f s g old
+      sym (features_hold table f s (cut_again r g) h (feature_of J table f (cut_again r g) new) (feature_of J table s h of)) ∙ order_means left.arcs.arcs f s g old
 
   all_agree : (fs : List Feature) (gs : List Geom) → Pairwise (IsFeatureOf left.arcs.arcs) fs gs → Pairwise (IsRecutFor J table r.left) fs gs →
       AllByRecursion (Agrees (by_lists r) (order_to left.arcs.arcs) (IsNewFor J table)) gs
@@ -315,25 +315,25 @@ module _ (m n : Layers) (left right : TopologyParts) (r : RecutParts) (ks : List
   all_agree (f ∷ fs) [] p q = absurd p
   all_agree (f ∷ fs) (g ∷ gs) p q = (agrees f g p.0 q.0, all_agree fs gs p.1 q.1)
 
-  layer_told : (e : List ℕ × Features) (l : LayerParts) → IsEntryOf left.arcs.arcs e l → IsLayerRecut J table r.left e l → found r ks l ≡ layer_less left.arcs.arcs n l
-  layer_told e l p q =
+  layer_says : (e : List ℕ × Features) (l : LayerParts) → IsEntryOf left.arcs.arcs e l → IsLayerRecut J table r.left e l → found r ks l ≡ layer_less left.arcs.arcs n l
+  layer_says e l p q =
       ap (λ gs. record { name = l.name; geometries = gs })
       (others_agree (by_lists r) (order_to left.arcs.arcs) (IsNewFor J table) l.geometries (all_agree (set.items e.1) l.geometries p.items q.items)
       (set.items (features_at n (name_at l))) (geometries_in (layer_named (name_at l) ks)) (removed_under (name_at l)))
 
-  layers_told : (es : List (List ℕ × Features)) (ls : List LayerParts) → Pairwise (IsEntryOf left.arcs.arcs) es ls → Pairwise (IsLayerRecut J table r.left) es ls →
+  layers_means : (es : List (List ℕ × Features)) (ls : List LayerParts) → Pairwise (IsEntryOf left.arcs.arcs) es ls → Pairwise (IsLayerRecut J table r.left) es ls →
       map_list (found r ks) ls ≡ map_list (layer_less left.arcs.arcs n) ls
-  layers_told [] [] p q = refl
-  layers_told [] (l ∷ ls) p q = absurd p
-  layers_told (e ∷ es) [] p q = absurd p
-  layers_told (e ∷ es) (l ∷ ls) p q =
-      let here = layer_told e l p.0 q.0 in
-      let more = layers_told es ls p.1 q.1 in
+  layers_means [] [] p q = refl
+  layers_means [] (l ∷ ls) p q = absurd p
+  layers_means (e ∷ es) [] p q = absurd p
+  layers_means (e ∷ es) (l ∷ ls) p q =
+      let here = layer_says e l p.0 q.0 in
+      let more = layers_means es ls p.1 q.1 in
       λ i. here i ∷ more i
 
   -- what the pass leaves
-  pub pass_told : layers_without r left.layers ks ≡ map_list (layer_less left.arcs.arcs n) left.layers
-  pass_told = pass_finds r ks left.layers left_ascends right_ascends ∙ layers_told (map.entries m) left.layers (entries_of m left hm) of_left
+  pub pass_means : layers_without r left.layers ks ≡ map_list (layer_less left.arcs.arcs n) left.layers
+  pass_means = pass_finds r ks left.layers left_ascends right_ascends ∙ layers_means (map.entries m) left.layers (entries_of m left hm) of_left
 
 -- ---- what is told where both are shared and cut again
 
@@ -352,14 +352,14 @@ module _ {left right shared : TopologyParts} {la ra : Arcs} {ls rls ks : List La
   cut_of : ks ≡ map_list (layer_recut r.arcs.arcs r.right) right.layers
   cut_of = cut ∙ ap (map_list (layer_recut r.arcs.arcs r.right)) (l ∙ ap (λ t. t.layers) s)
 
-  pub told_noded : AreNoded r.arcs.arcs
-  told_noded = table_noded (geometry_of (union m n)) r.arcs is_cut.table
+  pub if_noded : AreNoded r.arcs.arcs
+  if_noded = table_noded (geometry_of (union m n)) r.arcs is_cut.table
 
-  pub told_left : LayersHaveRecut r ls
-  told_left = subst (LayersHaveRecut r) (sym given) (left_have m n left right r ks hm hn is_cut cut_of)
+  pub if_left : LayersHaveRecut r ls
+  if_left = subst (LayersHaveRecut r) (sym given) (left_have m n left right r ks hm hn is_cut cut_of)
 
-  pub told_right : LayersHaveFeatures r.arcs.arcs ks
-  told_right = removed_have m n left right r ks hm hn is_cut cut_of
+  pub if_right : LayersHaveFeatures r.arcs.arcs ks
+  if_right = removed_have m n left right r ks hm hn is_cut cut_of
 
-  pub told_pass : layers_without r ls ks ≡ map_list (layer_less left.arcs.arcs n) left.layers
-  told_pass = ap (λ w. layers_without r w ks) given ∙ pass_told m n left right r ks hm hn is_cut cut_of
+  pub if_pass : layers_without r ls ks ≡ map_list (layer_less left.arcs.arcs n) left.layers
+  if_pass = ap (λ w. layers_without r w ks) given ∙ pass_means m n left right r ks hm hn is_cut cut_of

@@ -48,8 +48,8 @@ use Rattle.refine.specs.Borrowed.{all_borrowed}
 use Rattle.topo.specs.LayerLaws.LeftLists.{both_ends, line_ends}
 use Rattle.topo.specs.UsedArcs.{body_refs, layer_refs, layers_refs}
 use Rattle.refine.specs.LeftLists.{body_ends, layer_ends, layers_ends}
-use Rattle.refine.specs.declared.remove.LayerLeft.{LayerLeft}
-use Rattle.topo.specs.LayerLaws.Less.{layer_over_healed, layers_left, less, marks_of}
+use Rattle.refine.specs.declared.remove.RemainingLayer.{RemainingLayer}
+use Rattle.topo.specs.LayerLaws.Less.{layer_over_healed, remaining_layers, less, marks_of}
 use Rattle.refine.specs.Removals.{AreJoinedOf}
 use Rattle.topo.proofs.LayerLawsLemmas.LeftGeometries as left
 use Rattle.arcs.specs.ArcMarks.{marks_set}
@@ -120,14 +120,14 @@ uses_body k b (inr (us, h, u)) =
     uses_joined k (body_lists b) us (subst (Has us) (sym (both_kinds b)) (Has-append_right us (lines_in (body_of b)) (rings_in (body_of b)) h)) u
 
 -- the arcs that are noted of layers are those that their geometries use
-noted_are_used : (ls : List LayerParts) (k : ℕ) → Uses k (layers_refs ls) → InLayers (map_list layer_of ls) k
-noted_are_used ls k u =
+recorded_are_used : (ls : List LayerParts) (k : ℕ) → Uses k (layers_refs ls) → InLayers (map_list layer_of ls) k
+recorded_are_used ls k u =
     let l = gathered_uses layer_refs k ls u in
     let g = gathered_uses (λ h. body_refs h.body) k l.0.geometries l.2 in
     (layer_of l.0, Has-map layer_of ls l.0 l.1, item_of g.0, Has-map item_of l.0.geometries g.0 g.1, body_uses k g.0.body g.2)
 
-used_are_noted : (ls : List LayerParts) (k : ℕ) → InLayers (map_list layer_of ls) k → Uses k (layers_refs ls)
-used_are_noted ls k (y, i, h, s, u) =
+used_are_recorded : (ls : List LayerParts) (k : ℕ) → InLayers (map_list layer_of ls) k → Uses k (layers_refs ls)
+used_are_recorded ls k (y, i, h, s, u) =
     let l = map_has layer_of ls y i in
     let g = map_has item_of l.0.geometries h (subst (λ z. Has h z.items) l.2 s) in
     uses_gathered layer_refs k ls l.0 l.1
@@ -153,11 +153,11 @@ both_are [] = refl
 both_are (x ∷ []) = refl
 both_are (x ∷ (y ∷ l)) = refl
 
-end_is_noted : (v : Pos) (l : List Pos) → EndOf v l → Has v (both_ends l)
-end_is_noted v l h = subst (Has v) (sym (both_are l)) (ends_has v l h)
+end_is_recorded : (v : Pos) (l : List Pos) → EndOf v l → Has v (both_ends l)
+end_is_recorded v l h = subst (Has v) (sym (both_are l)) (ends_has v l h)
 
-noted_is_end : (v : Pos) (l : List Pos) → Has v (both_ends l) → EndOf v l
-noted_is_end v l h = has_ends v l (subst (Has v) (both_are l) h)
+recorded_is_end : (v : Pos) (l : List Pos) → Has v (both_ends l) → EndOf v l
+recorded_is_end v l h = has_ends v l (subst (Has v) (both_are l) h)
 
 lines_are : (b : bodies.Body) → body_lines b ≡ lines_in (body_of b)
 lines_are to.Null = refl
@@ -173,8 +173,8 @@ module _ (arcs : List (List Pos)) where
   abbrev Stitched : List LayerParts → Type 0
   Stitched ls = (l : LayerParts) → Has l ls → (g : Geom) → Has g l.geometries → (used : List ArcRef) → Has used (lines_in (body_of g.body)) → (c : List Pos) × StitchTo arcs used c
 
-  noted_are_ends : (ls : List LayerParts) → Stitched ls → (v : Pos) → Has v (layers_ends arcs ls) → EndsInLayers arcs (map_list layer_of ls) v
-  noted_are_ends ls st v h =
+  recorded_are_ends : (ls : List LayerParts) → Stitched ls → (v : Pos) → Has v (layers_ends arcs ls) → EndsInLayers arcs (map_list layer_of ls) v
+  recorded_are_ends ls st v h =
       let l = gathered_from (layer_ends arcs) ls v h in
       let g = gathered_from (λ z. body_ends arcs z.body) l.0.geometries v l.2 in
       let u = gathered_from (line_ends arcs) (body_lines g.0.body) v g.2 in
@@ -186,11 +186,11 @@ module _ (arcs : List (List Pos)) where
         Has-map item_of l.0.geometries g.0 g.1,
         u.0,
         w,
-        list_ends arcs u.0 c.0 c.1 v (subst (EndOf v) (walked_stitched arcs u.0 c.0 c.1) (noted_is_end v (walked arcs u.0) u.2)),
+        list_ends arcs u.0 c.0 c.1 v (subst (EndOf v) (walked_stitched arcs u.0 c.0 c.1) (recorded_is_end v (walked arcs u.0) u.2)),
       )
 
-  ends_are_noted : (ls : List LayerParts) → Stitched ls → (v : Pos) → EndsInLayers arcs (map_list layer_of ls) v → Has v (layers_ends arcs ls)
-  ends_are_noted ls st v (y, i, h, s, used, us, e) =
+  ends_are_recorded : (ls : List LayerParts) → Stitched ls → (v : Pos) → EndsInLayers arcs (map_list layer_of ls) v → Has v (layers_ends arcs ls)
+  ends_are_recorded ls st v (y, i, h, s, used, us, e) =
       let l = map_has layer_of ls y i in
       let g = map_has item_of l.0.geometries h (subst (λ z. Has h z.items) l.2 s) in
       let w : Has used (lines_in (body_of g.0.body)) = subst (λ z. Has used (lines_in z.form)) g.2 us in
@@ -198,7 +198,7 @@ module _ (arcs : List (List Pos)) where
       Has-gathered (layer_ends arcs) ls l.0 v l.1
       (Has-gathered (λ z. body_ends arcs z.body) l.0.geometries g.0 v g.1
       (Has-gathered (line_ends arcs) (body_lines g.0.body) used v (subst (Has used) (sym (lines_are g.0.body)) w)
-      (end_is_noted v (walked arcs used) (subst (EndOf v) (sym (walked_stitched arcs used c.0 c.1)) (ends_list arcs used c.0 c.1 v e)))))
+      (end_is_recorded v (walked arcs used) (subst (EndOf v) (sym (walked_stitched arcs used c.0 c.1)) (ends_list arcs used c.0 c.1 v e)))))
 
 -- ---- what `remove` has before it puts the new topology together
 
@@ -209,10 +209,10 @@ pub record IsMade (t : TopologyParts) (r : Layers) (ls : List LayerParts) (kept 
   pub refined : (g u : Geometry Pos) → IsLeftBy g u t.arcs kept ends → IsHealedOf g u t.arcs j
 
 -- from what is lent and from marks and ends as they are handed over
-pub made_of : {t : TopologyParts} {r : Layers} {stay here there : List LayerLeft} {kept marks : List Bool} {ends places : List Pos} {a b : Arcs} {j : HealedParts} →
+pub made_of : {t : TopologyParts} {r : Layers} {stay here there : List RemainingLayer} {kept marks : List Bool} {ends indexes : List Pos} {a b : Arcs} {j : HealedParts} →
     all_borrowed stay ≡ map_list (layer_less t.arcs.arcs r) t.layers → a ≡ t.arcs → here ≡ stay → kept ≡ marks_set true (replicate (length a.arcs) false) (layers_refs (all_borrowed here)) →
-    there ≡ stay → ends ≡ layers_ends t.arcs.arcs (all_borrowed there) → b ≡ t.arcs → marks ≡ kept → places ≡ ends →
-    ((g u : Geometry Pos) → IsLeftBy g u b marks places → IsHealedOf g u b j) → IsMade t r (all_borrowed stay) kept ends j
+    there ≡ stay → ends ≡ layers_ends t.arcs.arcs (all_borrowed there) → b ≡ t.arcs → marks ≡ kept → indexes ≡ ends →
+    ((g u : Geometry Pos) → IsLeftBy g u b marks indexes → IsHealedOf g u b j) → IsMade t r (all_borrowed stay) kept ends j
 made_of {t = t} {kept = kept} {marks = marks} {ends = ends} {b = b} {j = j} l ae he k te n be me pe refined = record {
   left_are = l;
   kept_are = k ∙ (λ i. marks_set true (replicate (length (ae i).arcs) false) (layers_refs (all_borrowed (he i))));
@@ -232,13 +232,13 @@ module _ {t : TopologyParts} {r : Layers} {ls : List LayerParts} {kept : List Bo
   u = geometry_of m
 
   abbrev marked_layers : List LayerParts
-  marked_layers = layers_left (marks_of m r) t.layers
+  marked_layers = remaining_layers (marks_of m r) t.layers
 
   same : ls ≡ marked_layers
   same = made.left_are ∙ pass_marks m r t h
 
   are : Pairwise (IsLayerOf position_cmp (JunctionOf u) t.arcs.arcs) (seen (less m r)) (map_list layer_of marked_layers)
-  are = left.geometries_left m r t.arcs.arcs t.layers h.topology.layers
+  are = left.remaining_geometries m r t.arcs.arcs t.layers h.topology.layers
 
   stitched : (l : LayerParts) → Has l marked_layers → (f : Geom) → Has f l.geometries → (used : List ArcRef) → Has used (lines_in (body_of f.body)) →
       (c : List Pos) × StitchTo t.arcs.arcs used c
@@ -248,28 +248,28 @@ module _ {t : TopologyParts} {r : Layers} {ls : List LayerParts} {kept : List Bo
       let c = line_partner_back (λ a b. StitchTo t.arcs.arcs b a) (IsRingList position_cmp (JunctionOf u) t.arcs.arcs) (body_of f.body) y.0.form y.2.form used w in
       (c.0, c.2)
 
-  kept_told : (k : ℕ) → (slice_get kept k ≡ Some true) ↔ IsKept position_cmp g u t.arcs.arcs k
-  kept_told k =
+  kept_means : (k : ℕ) → (slice_get kept k ≡ Some true) ↔ IsKept position_cmp g u t.arcs.arcs k
+  kept_means k =
       let by = left.kept_arcs m r t.arcs.arcs t.layers h.topology.layers h.table.arcs k in
       let tell = marks_tell (length t.arcs.arcs) (layers_refs ls) k in (
-        (λ e. by.1 (subst (λ w. InLayers (map_list layer_of w) k) same (noted_are_used ls k (tell.0 (sym (ap (λ b. slice_get b k) made.kept_are) ∙ e)).1))),
+        (λ e. by.1 (subst (λ w. InLayers (map_list layer_of w) k) same (recorded_are_used ls k (tell.0 (sym (ap (λ b. slice_get b k) made.kept_are) ∙ e)).1))),
         (λ i. ap (λ b. slice_get b k) made.kept_are
-            ∙ tell.1 (kept_in_table g u t.arcs.arcs k i, used_are_noted ls k (subst (λ w. InLayers (map_list layer_of w) k) (sym same) (by.0 i)))),
+            ∙ tell.1 (kept_in_table g u t.arcs.arcs k i, used_are_recorded ls k (subst (λ w. InLayers (map_list layer_of w) k) (sym same) (by.0 i)))),
       )
 
-  ends_told : (v : Pos) → Has v ends ↔ IsLineEnd g t.arcs.arcs v
-  ends_told v =
+  ends_means : (v : Pos) → Has v ends ↔ IsLineEnd g t.arcs.arcs v
+  ends_means v =
       let by = left.line_ends m r t.arcs.arcs t.layers h.topology.layers h.table.arcs v in
       let e : ends ≡ layers_ends t.arcs.arcs marked_layers = made.ends_are ∙ ap (layers_ends t.arcs.arcs) same in (
-        (λ i. by.1 (noted_are_ends t.arcs.arcs marked_layers stitched v (subst (Has v) e i))),
-        (λ i. subst (Has v) (sym e) (ends_are_noted t.arcs.arcs marked_layers stitched v (by.0 i))),
+        (λ i. by.1 (recorded_are_ends t.arcs.arcs marked_layers stitched v (subst (Has v) e i))),
+        (λ i. subst (Has v) (sym e) (ends_are_recorded t.arcs.arcs marked_layers stitched v (by.0 i))),
       )
 
   part : IsPartOf g u
   part = left.less_is_part m r t.arcs.arcs t.layers h.topology.layers
 
   joined_is : IsHealedOf g u t.arcs j
-  joined_is = made.refined g u (record { sound = are_sound m; table = h.table; part = part; kept = kept_told; ends = ends_told })
+  joined_is = made.refined g u (record { sound = are_sound m; table = h.table; part = part; kept = kept_means; ends = ends_means })
 
   starts : AreStarts j.pieces (starts_by j.pieces)
   starts = starts_are j.pieces (starts_once position_cmp position_total position_same position_dec u (are_sound m) t.arcs.arcs joined_is.refined.new g part j.arcs.arcs j.pieces joined_is.refined)
@@ -289,6 +289,6 @@ module _ {t : TopologyParts} {r : Layers} {ls : List LayerParts} {kept : List Bo
         only = λ i c used n k.
             let p = paired (ArePiecesOfArc position_cmp (JunctionOf g) (JunctionOf u) t.arcs.arcs) j.arcs.arcs j.pieces joined_is.refined.cut i c n in
             p.1 ∙ ap Some (pieces_unique position_cmp position_total position_same position_dec (JunctionOf g) u (are_sound m) t.arcs.arcs joined_is.refined.new c p.0 used p.2 k);
-        places = law.pieces_of_what_is_left position_cmp g u order (are_sound (less m r))
+        indexes = law.pieces_of_what_is_left position_cmp g u order (are_sound (less m r))
             (are_sound m) part j.arcs.arcs t.arcs.arcs j.pieces joined_is.refined;
       }))

@@ -27,7 +27,7 @@ pub record AreJoinedOf (g u : Geometry Pos) (new table : List (List Pos)) (piece
   pub only : (i : ℕ) (c : List Pos) (used : List ArcRef) → slice_get new i ≡ Some c →
       ArePiecesOfArc position_cmp (JunctionOf g) (JunctionOf u) table c used → slice_get pieces i ≡ Some used
   -- an old arc stands at one place of one list where a segment of it is one of g, else at none, and all its segments are of g or none
-  pub places : RemovalLaws g u table pieces
+  pub indexes : RemovalLaws g u table pieces
 
 -- the new arcs are joined of the old ones of m, as what is left of it without r
 abbrev pub IsWithoutBy : Layers → Layers → TopologyParts → RemovalParts → Type 0

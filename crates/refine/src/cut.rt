@@ -1,7 +1,7 @@
 //! The join of two topologies: their arcs are cut again, their geometries follow the pieces, and
 //! the sorted layers and geometries of both are merged in one pass.
 ghost use Rattle.topo.specs.GeometryOrder.Noded.{AreNoded};
-ghost use Rattle.topo.specs.GeometryOrder.Noted.{IsNotedFor};
+ghost use Rattle.topo.specs.GeometryOrder.Noted.{IsRecordedFor};
 ghost use Rattle.topo.specs.LayerLaws.CutLayers.{before, behind, layer_cmp, layer_recut, layers_as_one, layers_merged, tied, to_first, with_other};
 ghost use Rattle.topo.specs.LayerLaws.Cuts as cuts;
 ghost use Rattle.topo.proofs.LayerLawsLemmas.ItsMap.{ItsMap, ItsMap-prop};
@@ -104,10 +104,10 @@ pub(crate) fn order_to_first_geometry(
     others: &VecDeque<Geom>,
 ) -> Result<Option<Ordering>, OutOfMemory>
     requires noded { AreNoded arcs.now.arcs }
-    requires noted { IsNotedFor arcs.now.arcs by.old }
+    requires recorded { IsRecordedFor arcs.now.arcs by.old }
     requires there { HasFeature arcs.now.arcs geometry.now }
     requires others_there { HaveFeatures arcs.now.arcs others.now.items }
-    ensures noted { IsNotedFor arcs.now.arcs by.new }
+    ensures recorded { IsRecordedFor arcs.now.arcs by.new }
     ensures order { IfOk result (λ o. o ≡ to_first (geometry_cmp arcs.now.arcs) geometry.now others.now.items) }
 {
     match others.front() {
@@ -130,10 +130,10 @@ fn put_before(
     merged: &mut Vec<Geom>,
 ) -> Result<(), OutOfMemory>
     requires noded { AreNoded arcs.now.arcs }
-    requires noted { IsNotedFor arcs.now.arcs by.old }
+    requires recorded { IsRecordedFor arcs.now.arcs by.old }
     requires there { HasFeature arcs.now.arcs geometry.now }
     requires others_there { HaveFeatures arcs.now.arcs others.old.items }
-    ensures noted { IsNotedFor arcs.now.arcs by.new }
+    ensures recorded { IsRecordedFor arcs.now.arcs by.new }
     ensures merged { OnOk result (merged.new.items ≡ merged.old.items ++ before (geometry_cmp arcs.now.arcs) geometry.now others.old.items) }
     ensures others { OnOk result (others.new.items ≡ behind (geometry_cmp arcs.now.arcs) geometry.now others.old.items) }
 {
@@ -158,10 +158,10 @@ fn geometries_merged(
     right: Vec<Geom>,
 ) -> Result<Vec<Geom>, OutOfMemory>
     requires noded { AreNoded arcs.now.arcs }
-    requires noted { IsNotedFor arcs.now.arcs by.old }
+    requires recorded { IsRecordedFor arcs.now.arcs by.old }
     requires left { HaveFeatures arcs.now.arcs left.items }
     requires right { HaveFeatures arcs.now.arcs right.items }
-    ensures noted { IsNotedFor arcs.now.arcs by.new }
+    ensures recorded { IsRecordedFor arcs.now.arcs by.new }
     ensures merged { IfOk result (λ v. v.items ≡ cuts.merged (geometry_cmp arcs.now.arcs) left.items right.items) }
 {
     let mut merged = Vec::with_capacity(alloc, left.len() + right.len())?;
@@ -218,10 +218,10 @@ fn layer_with(
     other: Option<Layer>,
 ) -> Result<Layer, OutOfMemory>
     requires noded { AreNoded arcs.now.arcs }
-    requires noted { IsNotedFor arcs.now.arcs by.old }
+    requires recorded { IsRecordedFor arcs.now.arcs by.old }
     requires there { HaveFeatures arcs.now.arcs layer.geometries }
     requires other { IfSome other (λ l. HaveFeatures arcs.now.arcs l.geometries) }
-    ensures noted { IsNotedFor arcs.now.arcs by.new }
+    ensures recorded { IsRecordedFor arcs.now.arcs by.new }
     ensures both { IfOk result (λ l. l ≡ with_other (layers_as_one arcs.now.arcs) layer other) }
 {
     let Some(other) = other else {

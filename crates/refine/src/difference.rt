@@ -2,7 +2,7 @@
 //! both together; by those arcs two features are equal exactly where their ids, properties and lists of arcs
 //! are, so the lists say which geometries stay, and no feature is stitched.
 ghost use Rattle.topo.specs.GeometryOrder.Noded.{AreNoded};
-ghost use Rattle.topo.specs.GeometryOrder.Noted.{IsNotedFor};
+ghost use Rattle.topo.specs.GeometryOrder.Noted.{IsRecordedFor};
 ghost use Rattle.topo.specs.LayerLaws.Leaving.{from_on, is_first, layer_less, others};
 ghost use Rattle.refine.specs.Difference.{HaveRecut, LayersHaveRecut, by_lists, cut_again, geometries_in, layer_without, layers_without};
 ghost use Rattle.refine.specs.Borrowed.{all_borrowed, borrowed};
@@ -13,7 +13,7 @@ ghost use Rattle.topo.specs.GeometryOrder.{HaveFeatures, LayersHaveFeatures, geo
 ghost use Rattle.topo.specs.OfMap.{IsOf};
 
 use crate::cut::{SideLists, layers_recut, order_to_first_geometry, put_layers_before};
-use crate::remove::LayerLeft;
+use crate::remove::RemainingLayer;
 use chains::ArcTable;
 use faults::OutOfMemory;
 use split_heal::{Recut, Side, recut_owned};
@@ -24,7 +24,7 @@ use topo::geometry_order::GeometryOrder;
 use topo::{Geom, Layer, Topology, copy_rewritten};
 
 /// Drops the others that come before a geometry by the same arcs, and answers whether it is one of them.
-fn is_first_left(
+fn is_next_among(
     alloc: Global,
     arcs: &ArcTable,
     by: &mut GeometryOrder,
@@ -32,10 +32,10 @@ fn is_first_left(
     others: &mut VecDeque<Geom>,
 ) -> Result<bool, OutOfMemory>
     requires noded { AreNoded arcs.now.arcs }
-    requires noted { IsNotedFor arcs.now.arcs by.old }
+    requires recorded { IsRecordedFor arcs.now.arcs by.old }
     requires there { HasFeature arcs.now.arcs geometry.now }
     requires others_there { HaveFeatures arcs.now.arcs others.old.items }
-    ensures noted { IsNotedFor arcs.now.arcs by.new }
+    ensures recorded { IsRecordedFor arcs.now.arcs by.new }
     ensures rest { OnOk result (others.new.items ≡ from_on (geometry_cmp arcs.now.arcs) geometry.now others.old.items) }
     ensures among { IfOk result (λ b. b ≡ is_first (geometry_cmp arcs.now.arcs) geometry.now (from_on (geometry_cmp arcs.now.arcs) geometry.now others.old.items)) }
 {
@@ -59,10 +59,10 @@ fn is_among(
     others: &mut VecDeque<Geom>,
 ) -> Result<bool, OutOfMemory>
     requires noded { AreNoded both.now.arcs.arcs }
-    requires noted { IsNotedFor both.now.arcs.arcs by.old }
+    requires recorded { IsRecordedFor both.now.arcs.arcs by.old }
     requires there { HasFeature both.now.arcs.arcs (cut_again both.now geometry.now) }
     requires others_there { HaveFeatures both.now.arcs.arcs others.old.items }
-    ensures noted { IsNotedFor both.now.arcs.arcs by.new }
+    ensures recorded { IsRecordedFor both.now.arcs.arcs by.new }
     ensures rest { OnOk result (others.new.items ≡ from_on (by_lists both.now) geometry.now others.old.items) }
     ensures among { IfOk result (λ b. b ≡ is_first (by_lists both.now) geometry.now (from_on (by_lists both.now) geometry.now others.old.items)) }
 {
@@ -71,11 +71,11 @@ fn is_among(
         side: Side::Left,
     };
     let ours = copy_rewritten(alloc, &side, geometry)?;
-    is_first_left(alloc, both.arcs(), by, &ours, others)
+    is_next_among(alloc, both.arcs(), by, &ours, others)
 }
 
 /// Those of some geometries that are not among others; both are in the order of their features.
-fn geometries_left<'a>(
+fn remaining_geometries<'a>(
     alloc: Global,
     both: &Recut,
     by: &mut GeometryOrder,
@@ -83,10 +83,10 @@ fn geometries_left<'a>(
     removed: Vec<Geom>,
 ) -> Result<Vec<&'a Geom>, OutOfMemory>
     requires noded { AreNoded both.now.arcs.arcs }
-    requires noted { IsNotedFor both.now.arcs.arcs by.old }
+    requires recorded { IsRecordedFor both.now.arcs.arcs by.old }
     requires there { HaveRecut both.now geometries.now }
     requires removed_there { HaveFeatures both.now.arcs.arcs removed.items }
-    ensures noted { IsNotedFor both.now.arcs.arcs by.new }
+    ensures recorded { IsRecordedFor both.now.arcs.arcs by.new }
     ensures left { IfOk result (λ v. map_list (λ g. g.now) v.items ≡ others (by_lists both.now) geometries.now removed.items) }
 {
     let mut left = Vec::new(alloc);
@@ -111,35 +111,35 @@ fn geometries_of(alloc: Global, layer: Option<Layer>) -> Vec<Geom>
 }
 
 /// A layer without the geometries of another one of its name.
-fn layer_left<'a>(
+fn remaining_layer<'a>(
     alloc: Global,
     both: &Recut,
     by: &mut GeometryOrder,
     layer: &'a Layer,
     removed: Option<Layer>,
-) -> Result<LayerLeft<'a>, OutOfMemory>
+) -> Result<RemainingLayer<'a>, OutOfMemory>
     requires noded { AreNoded both.now.arcs.arcs }
-    requires noted { IsNotedFor both.now.arcs.arcs by.old }
+    requires recorded { IsRecordedFor both.now.arcs.arcs by.old }
     requires there { HaveRecut both.now layer.now.geometries }
     requires removed_there { HaveFeatures both.now.arcs.arcs (geometries_in removed) }
-    ensures noted { IsNotedFor both.now.arcs.arcs by.new }
+    ensures recorded { IsRecordedFor both.now.arcs.arcs by.new }
     ensures left { IfOk result (λ l. borrowed l ≡ layer_without both.now layer.now (geometries_in removed)) }
 {
     let others = geometries_of(alloc, removed);
-    let geometries = geometries_left(alloc, both, by, layer.geometries(), others)?;
-    Ok(LayerLeft {
+    let geometries = remaining_geometries(alloc, both, by, layer.geometries(), others)?;
+    Ok(RemainingLayer {
         name: layer.name(),
         geometries,
     })
 }
 
 /// Layers without the geometries of others under the same names.
-fn layers_left<'a>(
+fn remaining_layers<'a>(
     alloc: Global,
     both: &Recut,
     layers: &'a [Layer],
     removed: Vec<Layer>,
-) -> Result<Vec<LayerLeft<'a>>, OutOfMemory>
+) -> Result<Vec<RemainingLayer<'a>>, OutOfMemory>
     requires noded { AreNoded both.now.arcs.arcs }
     requires there { LayersHaveRecut both.now layers.now }
     requires removed_there { LayersHaveFeatures both.now.arcs.arcs removed.items }
@@ -151,7 +151,7 @@ fn layers_left<'a>(
     let mut by = GeometryOrder::new();
     for layer in layers {
         let other = put_layers_before(layer, &mut others, &mut passed)?;
-        left.push(layer_left(alloc, both, &mut by, layer, other)?)?;
+        left.push(remaining_layer(alloc, both, &mut by, layer, other)?)?;
     }
     Ok(left)
 }
@@ -163,7 +163,7 @@ fn layers_less<'a>(
     topology: &'a Topology,
     arcs: ArcTable,
     removed: Topology,
-) -> Result<Vec<LayerLeft<'a>>, OutOfMemory>
+) -> Result<Vec<RemainingLayer<'a>>, OutOfMemory>
     requires { arcs ≡ topology.now.arcs }
     ensures left { IfOk result (λ v. (m n : Layers) → IsOf m topology.now → IsOf n removed → all_borrowed v.items ≡ map_list (layer_less topology.now.arcs.arcs n) topology.now.layers) }
     ensures some { IfOk result (λ v. (r : Layers) × (all_borrowed v.items ≡ map_list (layer_less topology.now.arcs.arcs r) topology.now.layers)) }
@@ -171,7 +171,7 @@ fn layers_less<'a>(
     let (removed_arcs, layers) = removed.into_parts();
     let both = recut_owned(alloc, arcs, removed_arcs)?;
     let others = layers_recut(alloc, &both, Side::Right, layers)?;
-    let left = layers_left(alloc, &both, topology.layers(), others)?;
+    let left = remaining_layers(alloc, &both, topology.layers(), others)?;
     Ok(left)
 }
 
@@ -180,7 +180,7 @@ pub(crate) fn layers_without<'a>(
     alloc: Global,
     topology: &'a Topology,
     removed: &Topology,
-) -> Result<Vec<LayerLeft<'a>>, OutOfMemory>
+) -> Result<Vec<RemainingLayer<'a>>, OutOfMemory>
     ensures left { IfOk result (λ v. (m n : Layers) → IsOf m topology.now → IsOf n removed.now → all_borrowed v.items ≡ map_list (layer_less topology.now.arcs.arcs n) topology.now.layers) }
     ensures some { IfOk result (λ v. (r : Layers) × (all_borrowed v.items ≡ map_list (layer_less topology.now.arcs.arcs r) topology.now.layers)) }
 {

@@ -10,7 +10,7 @@ pub use merging::laws::{
     merges_through_texts, one_canon, plans_alike, segments_of_merge_once,
 };
 pub use split_heal::healing_laws::{
-    kept_stand_once, one_pieces as one_pieces_of_new_arcs, others_stand_nowhere,
+    kept_arcs_occur_once, one_pieces as one_pieces_of_new_arcs, others_occur_nowhere,
 };
 pub use split_heal::splitting_laws::{
     arcs_of_one_arc, junctions_of_both, no_other_arcs, one_pieces as one_pieces_of_old_arcs,

@@ -87,7 +87,7 @@ impl Removal {
 
 /// A layer, and those of its geometries that stay.
 #[derive(Drop)]
-pub(crate) struct LayerLeft<'a> {
+pub(crate) struct RemainingLayer<'a> {
     pub(crate) name: &'a Spelled,
     pub(crate) geometries: Vec<&'a Geom>,
 }
@@ -142,7 +142,7 @@ fn is_next(
 }
 
 /// Those geometries of a sorted list whose features are none of the others.
-fn geometries_left<'a>(
+fn remaining_geometries<'a>(
     alloc: Global,
     topology: &Topology,
     geometries: &'a [Geom],
@@ -191,39 +191,39 @@ fn features_under<'a>(
 }
 
 /// A layer without the features that a map has under its name.
-fn layer_left<'a>(
+fn remaining_layer<'a>(
     alloc: Global,
     topology: &Topology,
     layer: &'a Layer,
     removed: &FeatureMap,
-) -> Result<LayerLeft<'a>, OutOfMemory>
+) -> Result<RemainingLayer<'a>, OutOfMemory>
     requires there { HaveFeatures topology.now.arcs.arcs layer.now.geometries }
     ensures { IfOk result (λ l. borrowed l ≡ layer_less topology.now.arcs.arcs removed.now layer.now) }
 {
     let features = features_under(alloc, removed, layer.name().text())?;
-    let geometries = geometries_left(alloc, topology, layer.geometries(), features)?;
-    Ok(LayerLeft {
+    let geometries = remaining_geometries(alloc, topology, layer.geometries(), features)?;
+    Ok(RemainingLayer {
         name: layer.name(),
         geometries,
     })
 }
 
 /// The layers of a topology without the features of a map.
-fn layers_left<'a>(
+fn remaining_layers<'a>(
     alloc: Global,
     topology: &'a Topology,
     removed: &FeatureMap,
-) -> Result<Vec<LayerLeft<'a>>, OutOfMemory>
+) -> Result<Vec<RemainingLayer<'a>>, OutOfMemory>
     ensures { IfOk result (λ v. all_borrowed v.items ≡ map_list (layer_less topology.now.arcs.arcs removed.now) topology.now.layers) }
 {
     let mut layers = Vec::with_capacity(alloc, topology.layers().len())?;
     for layer in topology.layers() {
-        layers.push(layer_left(alloc, topology, layer, removed)?)?;
+        layers.push(remaining_layer(alloc, topology, layer, removed)?)?;
     }
     Ok(layers)
 }
 
-fn mark_layer(kept: &mut ArcMarks, layer: &LayerLeft)
+fn mark_layer(kept: &mut ArcMarks, layer: &RemainingLayer)
     ensures { kept.new ≡ marks_set true kept.old (layer_refs (borrowed layer.now)) }
 {
     for geometry in &layer.geometries {
@@ -231,7 +231,7 @@ fn mark_layer(kept: &mut ArcMarks, layer: &LayerLeft)
     }
 }
 
-fn mark_layers(kept: &mut ArcMarks, layers: &[LayerLeft])
+fn mark_layers(kept: &mut ArcMarks, layers: &[RemainingLayer])
     ensures { kept.new ≡ marks_set true kept.old (layers_refs (all_borrowed layers.now)) }
 {
     for layer in layers {
@@ -240,7 +240,7 @@ fn mark_layers(kept: &mut ArcMarks, layers: &[LayerLeft])
 }
 
 /// A mark for each arc, set where a geometry that stays uses it.
-fn arcs_kept(alloc: Global, arcs: &ArcTable, layers: &[LayerLeft]) -> Result<ArcMarks, OutOfMemory>
+fn arcs_kept(alloc: Global, arcs: &ArcTable, layers: &[RemainingLayer]) -> Result<ArcMarks, OutOfMemory>
     ensures { IfOk result (λ v. v ≡ marks_set true (replicate (length arcs.now.arcs) false) (layers_refs (all_borrowed layers.now))) }
 {
     let mut kept = ArcMarks::none(alloc, arcs.len())?;
@@ -283,7 +283,7 @@ fn add_ends_of_body(
 fn add_ends_of_layer(
     ends: &mut Vec<Pos>,
     topology: &Topology,
-    layer: &LayerLeft,
+    layer: &RemainingLayer,
 ) -> Result<(), OutOfMemory>
     ensures { OnOk result (ends.new.items ≡ ends.old.items ++ layer_ends topology.now.arcs.arcs (borrowed layer.now)) }
 {
@@ -297,7 +297,7 @@ fn add_ends_of_layer(
 fn line_ends(
     alloc: Global,
     topology: &Topology,
-    layers: &[LayerLeft],
+    layers: &[RemainingLayer],
 ) -> Result<Vec<Pos>, OutOfMemory>
     ensures { IfOk result (λ v. v.items ≡ layers_ends topology.now.arcs.arcs (all_borrowed layers.now)) }
 {
@@ -332,7 +332,7 @@ impl NewLists for JoinedLists<'_> {
 fn layer_over_healed(
     alloc: Global,
     arcs: &HealedArcs,
-    layer: &LayerLeft,
+    layer: &RemainingLayer,
 ) -> Result<Layer, OutOfMemory>
     ensures { IfOk result (λ l. l ≡ spec.layer_over_healed arcs.now.arcs.arcs (starts_by arcs.now.pieces) (borrowed layer.now)) }
 {
@@ -349,7 +349,7 @@ fn layer_over_healed(
 fn layers_over_healed(
     alloc: Global,
     arcs: &HealedArcs,
-    layers: &[LayerLeft],
+    layers: &[RemainingLayer],
 ) -> Result<Vec<Layer>, OutOfMemory>
     ensures { IfOk result (λ v. v.items ≡ map_list (spec.layer_over_healed arcs.now.arcs.arcs (starts_by arcs.now.pieces)) (all_borrowed layers.now)) }
 {
@@ -364,7 +364,7 @@ fn layers_over_healed(
 fn removal_of(
     alloc: Global,
     topology: &Topology,
-    left: &[LayerLeft],
+    left: &[RemainingLayer],
 ) -> Result<Removal, OutOfMemory>
     requires { (r : Layers) × (all_borrowed left.now ≡ map_list (layer_less topology.now.arcs.arcs r) topology.now.layers) }
     ensures grid { IfOk result (λ x. x.topology.grid ≡ topology.now.grid) }
@@ -397,7 +397,7 @@ pub fn remove(
     ensures pieces { IfOk result (λ r. (m : Layers) → IsOf m topology.now → IsWithoutBy m removed.now topology.now r) }
     ensures few { IfOk result (λ r. length r.topology.arcs.arcs < 2 ^ 63) }
 {
-    let left = layers_left(alloc, topology, removed)?;
+    let left = remaining_layers(alloc, topology, removed)?;
     removal_of(alloc, topology, &left)
 }
 

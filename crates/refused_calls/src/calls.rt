@@ -158,7 +158,7 @@ impl Tally {
         requires { F.IsAlwaysCallable is_right }
     {
         let answer = Answer::of(is_right(borrowed));
-        self.note_without_memory(
+        self.record_without_memory(
             rt,
             title,
             name,

@@ -8,7 +8,7 @@ use shapes::{Feature, FeatureMap};
 use topo::Geom;
 
 /// Whether positions are at these places, in their order.
-pub fn stand_at(positions: &[Pos], places: &[(i64, i64)]) -> bool {
+pub fn are_at(positions: &[Pos], places: &[(i64, i64)]) -> bool {
     for (position, place) in positions.iter().zip(places) {
         if (position.x(), position.y()) != *place {
             return false;
@@ -23,7 +23,7 @@ pub fn are_arcs(table: &ArcTable, lines: &[Places]) -> bool {
         let Some(arc) = table.arc(number) else {
             return false;
         };
-        if !stand_at(arc, places) {
+        if !are_at(arc, places) {
             return false;
         }
     }

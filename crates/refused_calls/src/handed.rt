@@ -12,7 +12,7 @@ const TITLE: &str = "without memory";
 #[macro_export]
 macro_rules! rows {
     ($rt:expr, $tally:expr; $($name:literal => $is_right:expr),+ $(,)?) => {
-        $($tally.note_right($rt, $name, $is_right);)+
+        $($tally.record_right($rt, $name, $is_right);)+
     };
 }
 
@@ -44,9 +44,9 @@ fn ask_once(alloc: Global, _: &()) -> Result<bool, OutOfMemory> {
 
 impl Tally {
     /// Counts a call that takes no memory, and names it where it was wrong.
-    pub fn note_right(&mut self, rt: &HostRuntime, name: &str, is_right: bool) {
+    pub fn record_right(&mut self, rt: &HostRuntime, name: &str, is_right: bool) {
         let outcome = Outcome::of_first(Answer::of(is_right), true);
-        self.note_without_memory(rt, TITLE, name, outcome);
+        self.record_without_memory(rt, TITLE, name, outcome);
     }
 
     /// Makes what calls are handed, then one request, the last, and then the calls.

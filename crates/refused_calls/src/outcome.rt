@@ -120,7 +120,7 @@ impl Tally {
     }
 
     /// The same of a call that takes no memory.
-    pub fn note_without_memory(
+    pub fn record_without_memory(
         &mut self,
         rt: &HostRuntime,
         title: &str,

@@ -2,7 +2,7 @@
 use Rattle.std.specs.Prelude.{◌≡◌, ℕ, Bool, true, false, List, ◌++◌, Option, Some, None, codes, map}
 use Rattle.std.specs.Fmt.{decimal}
 use Rattle.compare.specs.Quality.FoundNear.{AreNearOf}
-use Rattle.compare.specs.Quality.Ids.{ids_in, is_missing, numbers_of, stands_again}
+use Rattle.compare.specs.Quality.Ids.{ids_in, is_missing, numbers_of, occurs_again}
 use Rattle.compare.specs.declared.quality.near.NearVertices.{NearVertices}
 use Rattle.compare.specs.declared.quality.pairs.NearPlace.{NearPlace}
 use Rattle.grid.specs.Fits.{absolute_place}
@@ -21,7 +21,7 @@ LayerLists = List ℕ × (List ℕ × List ℕ)
 
 -- the same of a layer of a topology
 abbrev pub lists_of : LayerParts → LayerLists
-lists_of l = (spelled_text l.name, (numbers_of is_missing 0 (ids_in l.geometries), numbers_of (stands_again (ids_in l.geometries)) 0 (ids_in l.geometries)))
+lists_of l = (spelled_text l.name, (numbers_of is_missing 0 (ids_in l.geometries), numbers_of (occurs_again (ids_in l.geometries)) 0 (ids_in l.geometries)))
 
 -- the name of a layer as the beginning of a JSON object
 abbrev pub layer_name : List ℕ → List ℕ

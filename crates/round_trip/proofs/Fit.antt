@@ -143,23 +143,23 @@ module _ (g : Transform) (m : Layers) (fits : MapFits g m) where
   I64-max : (a b : ℤ) → IsI64 a → IsI64 b → IsI64 (int_max a b)
   I64-max a b h k = I64-either (int_lt b a) a b h k
 
-  abbrev MayStand : Option Corners → Type 0
-  MayStand None = Unit {0}
-  MayStand (Some c) = IsValidBox c
+  abbrev MayHold : Option Corners → Type 0
+  MayHold None = Unit {0}
+  MayHold (Some c) = IsValidBox c
 
-  widened_stands : (b : Option Corners) (p : Pos) → MayStand b → Fits g p → IsValidBox (widened g b p)
-  widened_stands None p h f =
+  widened_holds : (b : Option Corners) (p : Pos) → MayHold b → Fits g p → IsValidBox (widened g b p)
+  widened_holds None p h f =
       let x = I64-absolute (absolute_place g p).0 f.x.absolute in
       let y = I64-absolute (absolute_place g p).1 f.y.absolute in
       record { west = x; south = y; east = x; north = y }
-  widened_stands (Some c) p h f =
+  widened_holds (Some c) p h f =
       let x = I64-absolute (absolute_place g p).0 f.x.absolute in
       let y = I64-absolute (absolute_place g p).1 f.y.absolute in
       record { west = I64-min c.0 _ h.west x; south = I64-min c.1 _ h.south y; east = I64-max c.2 _ h.east x; north = I64-max c.3 _ h.north y }
 
-  from_stands : (b : Option Corners) (ps : List Pos) → MayStand b → ((p : Pos) → Has p ps → Fits g p) → MayStand (box_from g b ps)
-  from_stands b [] h f = h
-  from_stands b (p ∷ ps) h f = from_stands (Some (widened g b p)) ps (widened_stands b p h (f p (inl refl))) (λ q k. f q (inr k))
+  from_holds : (b : Option Corners) (ps : List Pos) → MayHold b → ((p : Pos) → Has p ps → Fits g p) → MayHold (box_from g b ps)
+  from_holds b [] h f = h
+  from_holds b (p ∷ ps) h f = from_holds (Some (widened g b p)) ps (widened_holds b p h (f p (inl refl))) (λ q k. f q (inr k))
 
-  pub box_stands : (c : Corners) → box_of g (positions_of (seen m)) ≡ Some c → IsValidBox c
-  box_stands c e = subst MayStand e (from_stands None (positions_of (seen m)) tt all_fit)
+  pub box_holds : (c : Corners) → box_of g (positions_of (seen m)) ≡ Some c → IsValidBox c
+  box_holds c e = subst MayHold e (from_holds None (positions_of (seen m)) tt all_fit)

@@ -41,75 +41,75 @@ use Rattle.topo_io.specs.Means.{Means}
 use Rattle.topo_io.specs.Roots.{grid_of_text, layers_of_text}
 use Rattle.round_trip.specs.Laws.{IsHeldOf, WrittenTopologiesAreRead, OneMapOfAText}
 use Rattle.topo_io.proofs.Entries.{names_ascend, meant, holds_layers}
-use Rattle.round_trip.proofs.Fit.{shape_places, feature_fits, chain_long, chain_fits, box_stands}
+use Rattle.round_trip.proofs.Fit.{shape_places, feature_fits, chain_long, chain_fits, box_holds}
 use Rattle.round_trip.proofs.Root.{text_accepted, text_grid, text_layers}
 use Rattle.round_trip.proofs.ValidText.{IsValidLine, IsValidRing, IsValidGeometry, IsValidLayer, IsValidTopology}
 
 -- ---- forms
 
 module _ (J : Pos → Type 0) (arcs : List (List Pos)) where
-  line_stands : (l : the_line.Line) (used : List ArcRef) → StitchTo arcs used (lines_seen.positions_of l) → IsValidLine arcs (lines_seen.positions_of l) used
-  line_stands l used h = record { list = lines_seen.positions_of l; stitches = h; none = ap outline_faults (line_reads l).0; same = (line_reads l).1 }
+  line_is_valid : (l : the_line.Line) (used : List ArcRef) → StitchTo arcs used (lines_seen.positions_of l) → IsValidLine arcs (lines_seen.positions_of l) used
+  line_is_valid l used h = record { list = lines_seen.positions_of l; stitches = h; none = ap outline_faults (line_reads l).0; same = (line_reads l).1 }
 
   is_valid_ring : (r : the_ring.Ring) (used : List ArcRef) → IsRingList position_cmp J arcs (lines_seen.vertices_of r) used → IsValidRing arcs (lines_seen.vertices_of r) used
   is_valid_ring r used h =
       let reads = ring_reads r (h.0 ∷ h.1) h.2.rotation in
       record { list = closed (h.0 ∷ h.1); stitches = h.3; none = ap outline_faults reads.0; same = reads.1 }
 
-  pairs_stand : {L M A : Type 0} (P Q : A → M → Type 0) (f : L → A) → ((l : L) (u : M) → P (f l) u → Q (f l) u) → (ls : List L) (us : List M) → Pairwise P (map_list f ls) us → Pairwise Q (map_list f ls) us
-  pairs_stand P Q f to [] [] h = tt
-  pairs_stand P Q f to [] (u ∷ us) h = absurd h
-  pairs_stand P Q f to (l ∷ ls) [] h = absurd h
-  pairs_stand P Q f to (l ∷ ls) (u ∷ us) h = (to l u h.0, pairs_stand P Q f to ls us h.1)
+  pairs_hold : {L M A : Type 0} (P Q : A → M → Type 0) (f : L → A) → ((l : L) (u : M) → P (f l) u → Q (f l) u) → (ls : List L) (us : List M) → Pairwise P (map_list f ls) us → Pairwise Q (map_list f ls) us
+  pairs_hold P Q f to [] [] h = tt
+  pairs_hold P Q f to [] (u ∷ us) h = absurd h
+  pairs_hold P Q f to (l ∷ ls) [] h = absurd h
+  pairs_hold P Q f to (l ∷ ls) (u ∷ us) h = (to l u h.0, pairs_hold P Q f to ls us h.1)
 
-  rings_stand : (rs : List the_ring.Ring) (us : List (List ArcRef)) → Pairwise (IsRingList position_cmp J arcs) (map_list ring_of rs) us → Pairwise (IsValidRing arcs) (map_list ring_of rs) us
-  rings_stand = pairs_stand (IsRingList position_cmp J arcs) (IsValidRing arcs) ring_of is_valid_ring
+  rings_hold : (rs : List the_ring.Ring) (us : List (List ArcRef)) → Pairwise (IsRingList position_cmp J arcs) (map_list ring_of rs) us → Pairwise (IsValidRing arcs) (map_list ring_of rs) us
+  rings_hold = pairs_hold (IsRingList position_cmp J arcs) (IsValidRing arcs) ring_of is_valid_ring
 
-  form_stands : (s : shapes.Shape) (b : Body Pos) → IsFormOf (λ l used. StitchTo arcs used l) (IsRingList position_cmp J arcs) (form_of s) b → IsFormOf (IsValidLine arcs) (IsValidRing arcs) (plain_form s) b
-  form_stands of.Null null h = tt
-  form_stands (of.Point p) (point q) h = h
-  form_stands (of.MultiPoint ps) (points qs) h = h
-  form_stands (of.Line l) (line used) h = line_stands l used h
-  form_stands (of.MultiLine ls) (lines us) h = pairs_stand (λ l used. StitchTo arcs used l) (IsValidLine arcs) line_of line_stands ls us h
-  form_stands (of.Polygon rs) (polygon us) h = rings_stand rs us h
-  form_stands (of.MultiPolygon ps) (polygons us) h = pairs_stand (Pairwise (IsRingList position_cmp J arcs)) (Pairwise (IsValidRing arcs)) (map_list ring_of) rings_stand ps us h
-  form_stands s b h = absurd h
+  form_holds : (s : shapes.Shape) (b : Body Pos) → IsFormOf (λ l used. StitchTo arcs used l) (IsRingList position_cmp J arcs) (form_of s) b → IsFormOf (IsValidLine arcs) (IsValidRing arcs) (plain_form s) b
+  form_holds of.Null null h = tt
+  form_holds (of.Point p) (point q) h = h
+  form_holds (of.MultiPoint ps) (points qs) h = h
+  form_holds (of.Line l) (line used) h = line_is_valid l used h
+  form_holds (of.MultiLine ls) (lines us) h = pairs_hold (λ l used. StitchTo arcs used l) (IsValidLine arcs) line_of line_is_valid ls us h
+  form_holds (of.Polygon rs) (polygon us) h = rings_hold rs us h
+  form_holds (of.MultiPolygon ps) (polygons us) h = pairs_hold (Pairwise (IsRingList position_cmp J arcs)) (Pairwise (IsValidRing arcs)) (map_list ring_of) rings_hold ps us h
+  form_holds s b h = absurd h
 
 -- ---- features and layers
 
 -- the name is a text, and the features fit
-record EntryStands (g : Transform) (e : List ℕ × Features) : Type 0 where
+record EntryHolds (g : Transform) (e : List ℕ × Features) : Type 0 where
   name : IsUtf8 e.0
   features : (f : Feature) → Has f (set.items e.1) → ShapeFits g f.shape
 
 module _ (g : Transform) (J : Pos → Type 0) (arcs : List (List Pos)) where
-  geometry_stands : (f : Feature) (h : Item Info (Body Pos)) → ShapeFits g f.shape → IsGeometryOf position_cmp J arcs (item_of f) h → IsValidGeometry g arcs (plain f) h
-  geometry_stands f h ok s = record {
+  geometry_holds : (f : Feature) (h : Item Info (Body Pos)) → ShapeFits g f.shape → IsGeometryOf position_cmp J arcs (item_of f) h → IsValidGeometry g arcs (plain f) h
+  geometry_holds f h ok s = record {
     stored = subst (λ (i : Info). HasI64 i.0) s.info f.bits;
     id = ap (λ (i : Info). plain_id i.0) (sym s.info);
     properties = ap (λ (i : Info). properties_text i.1) (sym s.info);
-    form = form_stands J arcs f.shape h.form s.form;
+    form = form_holds J arcs f.shape h.form s.form;
     points = λ q k.
         shape_places g f.shape ok q
         (Has-append_left q (points_in (form_of f.shape)) (joined (lines_in (form_of f.shape)) ++ joined (rings_in (form_of f.shape)))
         (subst (Has q) (sym (same_points _ _ (form_of f.shape) h.form s.form)) k));
   }
 
-  geometries_stand : (fs : List Feature) (hs : List (Item Info (Body Pos))) → ((f : Feature) → Has f fs → ShapeFits g f.shape) → Pairwise (IsGeometryOf position_cmp J arcs) (map_list item_of fs) hs → Pairwise (IsValidGeometry g arcs) (map_list plain fs) hs
-  geometries_stand [] [] ok s = tt
-  geometries_stand [] (h ∷ hs) ok s = absurd s
-  geometries_stand (f ∷ fs) [] ok s = absurd s
-  geometries_stand (f ∷ fs) (h ∷ hs) ok s = (geometry_stands f h (ok f (inl refl)) s.0, geometries_stand fs hs (λ x k. ok x (inr k)) s.1)
+  geometries_hold : (fs : List Feature) (hs : List (Item Info (Body Pos))) → ((f : Feature) → Has f fs → ShapeFits g f.shape) → Pairwise (IsGeometryOf position_cmp J arcs) (map_list item_of fs) hs → Pairwise (IsValidGeometry g arcs) (map_list plain fs) hs
+  geometries_hold [] [] ok s = tt
+  geometries_hold [] (h ∷ hs) ok s = absurd s
+  geometries_hold (f ∷ fs) [] ok s = absurd s
+  geometries_hold (f ∷ fs) (h ∷ hs) ok s = (geometry_holds f h (ok f (inl refl)) s.0, geometries_hold fs hs (λ x k. ok x (inr k)) s.1)
 
-  layers_stand : (es : List (List ℕ × Features)) (ks : List (Layer (Item Info (Body Pos)))) → ((e : List ℕ × Features) → Has e es → EntryStands g e) → Pairwise (IsLayerOf position_cmp J arcs) (map_list layer_of es) ks
+  layers_are_valid : (es : List (List ℕ × Features)) (ks : List (Layer (Item Info (Body Pos)))) → ((e : List ℕ × Features) → Has e es → EntryHolds g e) → Pairwise (IsLayerOf position_cmp J arcs) (map_list layer_of es) ks
       → Pairwise (IsValidLayer g arcs) (map_list meant es) ks
-  layers_stand [] [] ok s = tt
-  layers_stand [] (k ∷ ks) ok s = absurd s
-  layers_stand (e ∷ es) [] ok s = absurd s
-  layers_stand (e ∷ es) (k ∷ ks) ok s =
+  layers_are_valid [] [] ok s = tt
+  layers_are_valid [] (k ∷ ks) ok s = absurd s
+  layers_are_valid (e ∷ es) [] ok s = absurd s
+  layers_are_valid (e ∷ es) (k ∷ ks) ok s =
       let this = ok e (inl refl) in (
-        record { name = sym s.0.name; utf8 = subst IsUtf8 s.0.name this.name; items = geometries_stand (set.items e.1) k.items this.features s.0.items },
-        layers_stand es ks (λ x j. ok x (inr j)) s.1,
+        record { name = sym s.0.name; utf8 = subst IsUtf8 s.0.name this.name; items = geometries_hold (set.items e.1) k.items this.features s.0.items },
+        layers_are_valid es ks (λ x j. ok x (inr j)) s.1,
       )
 
   names_are : (es : List (List ℕ × Features)) (ks : List (Layer (Item Info (Body Pos)))) → Pairwise (IsLayerOf position_cmp J arcs) (map_list layer_of es) ks → map_list (λ e. e.0) es ≡ map_list (λ k. k.name) ks
@@ -140,8 +140,8 @@ module _ (m : Layers) (t : TopologyParts) (held : IsHeldOf m t) (fits : MapFits 
   abbrev is : IsTopology t.grid m seen_topology
   is = held.of_map.topology
 
-  entry_stands : (e : List ℕ × Features) → Has e (map.entries m) → EntryStands t.grid e
-  entry_stands e there = record { name = name_is_text m t held.of_map e there; features = λ f h. feature_fits t.grid m fits e there f h }
+  entry_is_valid : (e : List ℕ × Features) → Has e (map.entries m) → EntryHolds t.grid e
+  entry_is_valid e there = record { name = name_is_text m t held.of_map e there; features = λ f h. feature_fits t.grid m fits e there f h }
 
   stands : IsValidTopology seen_topology (map_list meant (map.entries m))
   stands = record {
@@ -149,8 +149,8 @@ module _ (m : Layers) (t : TopologyParts) (held : IsHeldOf m t) (fits : MapFits 
     few = held.few;
     long = λ c h. chain_long t.grid m fits c (is.arcs.arcs_only c h).chain;
     fit = λ c h. chain_fits t.grid m fits c (is.arcs.arcs_only c h).chain;
-    box = λ c e. box_stands t.grid m fits c (sym is.bbox ∙ e);
-    layers = layers_stand t.grid (JunctionOf (geometry_of m)) seen_topology.arcs (map.entries m) seen_topology.layers entry_stands is.layers;
+    box = λ c e. box_holds t.grid m fits c (sym is.bbox ∙ e);
+    layers = layers_are_valid t.grid (JunctionOf (geometry_of m)) seen_topology.arcs (map.entries m) seen_topology.layers entry_is_valid is.layers;
     ascends = subst (Ascends (slice_cmp nat_cmp)) (names_are t.grid (JunctionOf (geometry_of m)) seen_topology.arcs (map.entries m) seen_topology.layers is.layers) (names_ascend m);
   }
 

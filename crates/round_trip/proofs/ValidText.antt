@@ -20,17 +20,17 @@ use Rattle.topo.specs.Parts.{Corners}
 use Rattle.shapes.specs.Ids.{IsI64, HasI64}
 
 -- the used arcs stitch to a list without faults, which is read as l
-pub record ListStands (faults : List Pos → List Pair) (of : List Pos → List Pos) (arcs : List (List Pos)) (l : List Pos) (used : List ArcRef) : Type 0 where
+pub record ListHolds (faults : List Pos → List Pair) (of : List Pos → List Pos) (arcs : List (List Pos)) (l : List Pos) (used : List ArcRef) : Type 0 where
   pub list : List Pos
   pub stitches : StitchTo arcs used list
   pub none : faults list ≡ []
   pub same : of list ≡ l
 
 abbrev pub IsValidLine : List (List Pos) → List Pos → List ArcRef → Type 0
-IsValidLine arcs = ListStands line_faults line_of arcs
+IsValidLine arcs = ListHolds line_faults line_of arcs
 
 abbrev pub IsValidRing : List (List Pos) → List Pos → List ArcRef → Type 0
-IsValidRing arcs = ListStands ring_faults ring_of arcs
+IsValidRing arcs = ListHolds ring_faults ring_of arcs
 
 -- a geometry that can be written and means the feature
 pub record IsValidGeometry (g : Transform) (arcs : List (List Pos)) (p : Plain) (h : Item Info (Body Pos)) : Type 0 where

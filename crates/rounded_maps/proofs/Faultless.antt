@@ -85,11 +85,11 @@ not_topology rules j (raw ∷ []) (inr (inr h)) = bare raw.geometry h.geometry
     bare (Collection ss) h = ap (λ o. is_topology_named (type_or_fault o)) h.has.kind
 not_topology rules j (raw ∷ other ∷ raws) (inr h) = absurd h
 
-layers_left : (rules : RoundingRules) (place : ℕ) (renamed : Bool) (layers : List TopologyLayer) (maps : List RoundedMap) (origins : List Origin) → AreLayerMaps rules place renamed layers maps origins → AreLayersLeft rules.fixing layers
-layers_left rules place renamed [] maps origins h = tt
-layers_left rules place renamed (l ∷ ls) [] origins h = absurd h
-layers_left rules place renamed (l ∷ ls) (m ∷ ms) [] h = absurd h
-layers_left rules place renamed (l ∷ ls) (m ∷ ms) (o ∷ os) h = (are_left rules.fixing rules.numbers 1 l.features.items m.features.items h.0.fixed.features, layers_left rules place renamed ls ms os h.1)
+remaining_layers : (rules : RoundingRules) (place : ℕ) (renamed : Bool) (layers : List TopologyLayer) (maps : List RoundedMap) (origins : List Origin) → AreLayerMaps rules place renamed layers maps origins → AreLayersLeft rules.fixing layers
+remaining_layers rules place renamed [] maps origins h = tt
+remaining_layers rules place renamed (l ∷ ls) [] origins h = absurd h
+remaining_layers rules place renamed (l ∷ ls) (m ∷ ms) [] h = absurd h
+remaining_layers rules place renamed (l ∷ ls) (m ∷ ms) (o ∷ os) h = (are_left rules.fixing rules.numbers 1 l.features.items m.features.items h.0.fixed.features, remaining_layers rules place renamed ls ms os h.1)
 
 topology_kind : (j : Json) → type_text j ≡ Ok (codes "Topology") → is_topology j ≡ true
 topology_kind j e = ap is_topology_named e
@@ -103,7 +103,7 @@ topology_sound : (rules : RoundingRules) (place : ℕ) (named : Bool) (text : Li
 topology_sound rules place named text maps origins h =
     let are = h.are in
     of_topology rules text h.tree h.utf8 h.json (topology_kind h.tree are.read.0)
-    ∙ topology_is_sound (topology_rules rules) rules.fixing h.tree are.layers are.read (layers_left rules place (takes_name named are.layers) are.layers maps origins are.are)
+    ∙ topology_is_sound (topology_rules rules) rules.fixing h.tree are.layers are.read (remaining_layers rules place (takes_name named are.layers) are.layers maps origins are.are)
 
 by_sequence : (rules : RoundingRules) (b : Bool) (bytes : List ℕ) (m : RoundedMap) → IsMeasure rules.map.grid.step → IsRounded rules b bytes m → file_faults rules b bytes ≡ []
 by_sequence rules true bytes m measured h = no_faults rules true bytes m measured h

@@ -1,5 +1,5 @@
 //! What became of a map, as it is reported.
-ghost use Rattle.fixing.specs.Counts.{no_fixes, told_from, total_from};
+ghost use Rattle.fixing.specs.Counts.{no_fixes, if_from, total_from};
 ghost use Rattle.std.specs.Prelude.{◌≡◌, IfOk, map as map_list};
 
 use crate::map::{RoundedFeature, RoundedMap};
@@ -60,7 +60,7 @@ fn features_fixed(
     alloc: Global,
     features: &[RoundedFeature],
 ) -> Result<Vec<FeatureFixes>, OutOfMemory>
-    ensures { IfOk result (λ v. v.items ≡ told_from 0 (map_list (λ f. f.fixes) features.now)) }
+    ensures { IfOk result (λ v. v.items ≡ if_from 0 (map_list (λ f. f.fixes) features.now)) }
 {
     let mut fixed = Vec::new(alloc);
     for (number, feature) in features.iter().enumerate() {

@@ -63,8 +63,8 @@ module _ (pieces : List (List ArcRef)) where
   abbrev Begun : ArcRef → ArcRef × ℕ → Type 0
   Begun q w = (more : List ArcRef) × (pieces_of_used pieces w.0 ≡ q ∷ more) × (length more ≡ w.1)
 
-  begun : (q : ArcRef) (w : ArcRef × ℕ) (b : ArcRef) (ps more : List ArcRef) → pieces_of_used pieces b ≡ ps → ps ≡ q ∷ more → (b, length more) ≡ w → Begun q w
-  begun q w b ps more e f g = (more, ap (λ x. pieces_of_used pieces x.0) (sym g) ∙ e ∙ f, ap (λ x. x.1) g)
+  started : (q : ArcRef) (w : ArcRef × ℕ) (b : ArcRef) (ps more : List ArcRef) → pieces_of_used pieces b ≡ ps → ps ≡ q ∷ more → (b, length more) ≡ w → Begun q w
+  started q w b ps more e f g = (more, ap (λ x. pieces_of_used pieces x.0) (sym g) ∙ e ∙ f, ap (λ x. x.1) g)
 
   arcs_from : (i : ℕ) (s : Starts) (ps : List (List ArcRef)) → Behind i ps → (q : ArcRef) (w : ArcRef × ℕ) → with_arcs i s ps q ≡ Some w → (s q ≡ Some w) ⊎ Begun q w
   arcs_from i s [] at q w e = inl e
@@ -75,8 +75,8 @@ module _ (pieces : List (List ArcRef)) where
       elim (arcs_from (i + 1) (with_head against (backwards p) (with_head ahead p s)) ps (λ j. ap (pieces_at pieces) (omega arith) ∙ at (suc j)) q w e) [
         | inr h ↦ inr h
         | inl h ↦ elim (head_from against (backwards p) (with_head ahead p s) q w h) [
-          | inr k ↦ inr (begun q w against (backwards p) k.0 (ap backwards here) k.1 k.2)
-          | inl k ↦ elim (head_from ahead p s q w k) [ inl l ↦ inl l | inr l ↦ inr (begun q w ahead p l.0 here l.1 l.2) ]
+          | inr k ↦ inr (started q w against (backwards p) k.0 (ap backwards here) k.1 k.2)
+          | inl k ↦ elim (head_from ahead p s q w k) [ inl l ↦ inl l | inr l ↦ inr (started q w ahead p l.0 here l.1 l.2) ]
         ]
       ]
 
@@ -107,18 +107,18 @@ module _ (pieces : List (List ArcRef)) where
 
   pub starts_are : ((b c a : ArcRef) (more rest : List ArcRef) → pieces_of_used pieces b ≡ a ∷ more → pieces_of_used pieces c ≡ a ∷ rest → (b ≡ c) × (more ≡ rest)) →
       AreStarts pieces (starts_by pieces)
-  starts_are once = record { noted = noted; only = only }
+  starts_are once = record { recorded = recorded; only = only }
     where
-      told : (q : ArcRef) (w : ArcRef × ℕ) → starts_by pieces q ≡ Some w → Begun q w
-      told q w e =
+      meant : (q : ArcRef) (w : ArcRef × ℕ) → starts_by pieces q ≡ Some w → Begun q w
+      meant q w e =
           elim (arcs_from 0 no_starts pieces (λ j. ap (pieces_at pieces) (omega arith)) q w e) [ inr h ↦ h | inl h ↦ absurd cc ]
 
-      noted : (a b : ArcRef) (more : List ArcRef) → pieces_of_used pieces b ≡ a ∷ more → starts_by pieces a ≡ Some (b, length more)
-      noted a b more e =
+      recorded : (a b : ArcRef) (more : List ArcRef) → pieces_of_used pieces b ≡ a ∷ more → starts_by pieces a ≡ Some (b, length more)
+      recorded a b more e =
           let n = arcs_put 0 no_starts pieces b.arc b.reversed a more e in
-          let t = told a n.0 n.1 in
+          let t = meant a n.0 n.1 in
           let k = once n.0.0 b a t.0 more t.1 e in
           n.1 ∙ (λ i. Some (k.0 i, (sym t.2 ∙ ap length k.1) i))
 
       only : (a b : ArcRef) (n : ℕ) → starts_by pieces a ≡ Some (b, n) → (more : List ArcRef) × (pieces_of_used pieces b ≡ a ∷ more) × (length more ≡ n)
-      only a b n e = told a (b, n) e
+      only a b n e = meant a (b, n) e

@@ -8,7 +8,7 @@ use Rattle.std.specs.declared.cmp.Ordering.{Ordering}
 use Rattle.std.specs.declared.cmp.Ordering.TheVariants.{Less, Equal, Greater}
 use Rattle.theory.specs.ArcNumbers.{ArcRef}
 use Rattle.lines.proofs.Positions.{true_false}
-use Rattle.split_heal.specs.ArcUseMap.{value_at, same_way, with_noted}
+use Rattle.split_heal.specs.ArcUseMap.{value_at, same_way, with_recorded}
 
 tied : (a b : ℕ) → is_eq (nat_cmp a b) ≡ true → a ≡ b
 tied a b = go (nat_cmp a b) refl
@@ -38,12 +38,12 @@ same_number k = ap is_eq (tied_itself nat_cmp_total k)
 
 module _ {T : Type 0} where
   -- nothing is noted at the places that are added
-  pub noted_more : (l : List (Option T)) (n k : ℕ) → value_at (l ++ replicate n None) k ≡ value_at l k
-  noted_more [] zero k = refl
-  noted_more [] (suc n) zero = refl
-  noted_more [] (suc n) (suc k) = noted_more [] n k
-  noted_more (o ∷ l) n zero = refl
-  noted_more (o ∷ l) n (suc k) = noted_more l n k
+  pub recorded_more : (l : List (Option T)) (n k : ℕ) → value_at (l ++ replicate n None) k ≡ value_at l k
+  recorded_more [] zero k = refl
+  recorded_more [] (suc n) zero = refl
+  recorded_more [] (suc n) (suc k) = recorded_more [] n k
+  recorded_more (o ∷ l) n zero = refl
+  recorded_more (o ∷ l) n (suc k) = recorded_more l n k
 
   set_same : (l : List (Option T)) (place : ℕ) (o : Option T) → place < length l → value_at (slice_set l place o) place ≡ o
   set_same [] place o h = absurd (omega (arith, h))
@@ -67,19 +67,19 @@ module _ {T : Type 0} where
       go false e = set_else l place o k (λ f. true_false (is_eq (nat_cmp k k)) (same_number k) (subst (λ n. is_eq (nat_cmp n k) ≡ false) f e))
 
   -- nothing is noted at a place that is not there
-  pub noted_missing : (l : List (Option T)) (k : ℕ) → slice_get l k ≡ None → value_at l k ≡ None
-  noted_missing [] k e = refl
-  noted_missing (o ∷ l) zero e = absurd cc
-  noted_missing (o ∷ l) (suc k) e = noted_missing l k e
+  pub recorded_missing : (l : List (Option T)) (k : ℕ) → slice_get l k ≡ None → value_at l k ≡ None
+  recorded_missing [] k e = refl
+  recorded_missing (o ∷ l) zero e = absurd cc
+  recorded_missing (o ∷ l) (suc k) e = recorded_missing l k e
 
-  pub noted_there : (l : List (Option T)) (k : ℕ) (o : Option T) → slice_get l k ≡ Some o → value_at l k ≡ o
-  noted_there [] k o e = absurd cc
-  noted_there (x ∷ l) zero o e = cc
-  noted_there (x ∷ l) (suc k) o e = noted_there l k o e
+  pub recorded_there : (l : List (Option T)) (k : ℕ) (o : Option T) → slice_get l k ≡ Some o → value_at l k ≡ o
+  recorded_there [] k o e = absurd cc
+  recorded_there (x ∷ l) zero o e = cc
+  recorded_there (x ∷ l) (suc k) o e = recorded_there l k o e
 
   -- places are added up to one
   pub noted_reached : (l new : List (Option T)) (n more k : ℕ) → length l ≤ n → new ≡ take n l ++ replicate more None → value_at new k ≡ value_at l k
-  noted_reached l new n more k h e = ap (λ w. value_at w k) (e ∙ ap (λ w. w ++ replicate more None) (take_all n l h)) ∙ noted_more l more k
+  noted_reached l new n more k h e = ap (λ w. value_at w k) (e ∙ ap (λ w. w ++ replicate more None) (take_all n l h)) ∙ recorded_more l more k
 
   -- one more is noted, of a use in either direction
   set_one : (u r c : Bool) (one x y against ahead : Option T) → x ≡ cond u (cond c one against) against → y ≡ cond u ahead (cond c one ahead) →
@@ -91,22 +91,22 @@ module _ {T : Type 0} where
 
   pub set_against : (ahead against new : List (Option T)) (used : ArcRef) (v : T) → used.reversed ≡ true →
       ((k : ℕ) → value_at new k ≡ cond (is_eq (nat_cmp used.arc k)) (Some v) (value_at against k)) → (q : ArcRef) →
-      cond q.reversed (value_at new q.arc) (value_at ahead q.arc) ≡ with_noted used v (λ r. cond r.reversed (value_at against r.arc) (value_at ahead r.arc)) q
+      cond q.reversed (value_at new q.arc) (value_at ahead q.arc) ≡ with_recorded used v (λ r. cond r.reversed (value_at against r.arc) (value_at ahead r.arc)) q
   set_against ahead against new used v w e q =
       rw w (set_one true q.reversed (is_eq (nat_cmp used.arc q.arc)) (Some v) (value_at new q.arc) (value_at ahead q.arc) (value_at against q.arc) (value_at ahead q.arc) (e q.arc) refl)
 
   pub set_ahead : (ahead against new : List (Option T)) (used : ArcRef) (v : T) → used.reversed ≡ false →
       ((k : ℕ) → value_at new k ≡ cond (is_eq (nat_cmp used.arc k)) (Some v) (value_at ahead k)) → (q : ArcRef) →
-      cond q.reversed (value_at against q.arc) (value_at new q.arc) ≡ with_noted used v (λ r. cond r.reversed (value_at against r.arc) (value_at ahead r.arc)) q
+      cond q.reversed (value_at against q.arc) (value_at new q.arc) ≡ with_recorded used v (λ r. cond r.reversed (value_at against r.arc) (value_at ahead r.arc)) q
   set_ahead ahead against new used v w e q =
       rw w (set_one false q.reversed (is_eq (nat_cmp used.arc q.arc)) (Some v) (value_at against q.arc) (value_at new q.arc) (value_at against q.arc) (value_at ahead q.arc) refl (e q.arc))
 
   -- what is noted of a, and of others
-  pub noted_here : (a : ArcRef) (v : T) (s : ArcRef → Option T) → with_noted a v s a ≡ Some v
-  noted_here a v s = rw (own_way a.reversed, same_number a.arc) refl
+  pub recorded_here : (a : ArcRef) (v : T) (s : ArcRef → Option T) → with_recorded a v s a ≡ Some v
+  recorded_here a v s = rw (own_way a.reversed, same_number a.arc) refl
 
-  pub noted_other : (a : ArcRef) (v : T) (s : ArcRef → Option T) (q : ArcRef) → ¬ (a ≡ q) → with_noted a v s q ≡ s q
-  noted_other a v s q n = go (same_way a.reversed q.reversed) refl (is_eq (nat_cmp a.arc q.arc)) refl
+  pub recorded_other : (a : ArcRef) (v : T) (s : ArcRef → Option T) (q : ArcRef) → ¬ (a ≡ q) → with_recorded a v s q ≡ s q
+  recorded_other a v s q n = go (same_way a.reversed q.reversed) refl (is_eq (nat_cmp a.arc q.arc)) refl
     where
       go : (b : Bool) → same_way a.reversed q.reversed ≡ b → (c : Bool) → is_eq (nat_cmp a.arc q.arc) ≡ c → cond b (cond c (Some v) (s q)) (s q) ≡ s q
       go true f true g = absurd (n (same_use a q f g))

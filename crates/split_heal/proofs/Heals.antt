@@ -29,10 +29,10 @@ use Rattle.arcs.specs.Table.{AreLoopsOf, located, number_in}
 use Rattle.arcs.specs.declared.piece.Piece.{Piece}
 use Rattle.chains.proofs.AllChains.{is_less, least_first}
 use Rattle.arcs.proofs.Marks.{all_marked}
-use Rattle.arcs.specs.Turning.{least_place}
+use Rattle.arcs.specs.Turning.{least_index}
 use Rattle.arcs.proofs.TurnedLists.{turned_at}
 use Rattle.split_heal.specs.Choosing.{kept_numbers}
-use Rattle.split_heal.specs.HealedArcs.{begun_at, chain_by, directed, from_least, goes_round, is_there, list_by, list_of_run, piece_by, piece_of_run, put_all, run_along}
+use Rattle.split_heal.specs.HealedArcs.{started_at, chain_by, directed, from_least, goes_round, is_there, list_by, list_of_run, piece_by, piece_of_run, put_all, run_along}
 use Rattle.split_heal.specs.PseudoNodes.{Begins, IsVerdict, partner_in}
 use Rattle.split_heal.specs.HealedParts.{HealedParts}
 use Rattle.split_heal.specs.Healing.{IsLeftBy, IsHealedOf}
@@ -40,7 +40,7 @@ use Rattle.split_heal.specs.Walks.{ArePaired, AreRuns, IsRun, IsWalked}
 use Rattle.split_heal.specs.declared.pseudo_nodes.PseudoNodes.{PseudoNodes}
 use Rattle.split_heal.proofs.Choices.{numbers_once}
 use Rattle.split_heal.proofs.Partners as partners
-use Rattle.split_heal.proofs.Partners.{AreTold}
+use Rattle.split_heal.proofs.Partners.{AreAnswered}
 use Rattle.split_heal.proofs.Placed as placed
 use Rattle.split_heal.proofs.Placed.{length_put, length_same}
 use Rattle.split_heal.proofs.RunsAre as runs_are
@@ -72,12 +72,12 @@ take_drop zero l = refl
 take_drop (suc i) [] = refl
 take_drop (suc i) (x ∷ l) = ap (λ w. x ∷ w) (take_drop i l)
 
-uses_begun : (i k : ℕ) (l : List ArcRef) → Uses k l → Uses k (begun_at i l)
-uses_begun i k l h =
+uses_started : (i k : ℕ) (l : List ArcRef) → Uses k l → Uses k (started_at i l)
+uses_started i k l h =
     uses_joined k (drop i l) (take i l) (elim (uses_parts k (take i l) (drop i l) (subst (Uses k) (sym (take_drop i l)) h)) [ inl a ↦ inr a | inr a ↦ inl a ])
 
-has_begun : (i : ℕ) (b : ArcRef) (l : List ArcRef) → Has b (begun_at i l) → Has b l
-has_begun i b l h = subst (Has b) (take_drop i l) (swap (drop i l) (take i l) h)
+has_started : (i : ℕ) (b : ArcRef) (l : List ArcRef) → Has b (started_at i l) → Has b l
+has_started i b l h = subst (Has b) (take_drop i l) (swap (drop i l) (take i l) h)
   where
     right : (s t : List ArcRef) → Has b t → Has b (s ++ t)
     right [] t h = h
@@ -115,7 +115,7 @@ common (x ∷ a) b = elim (uses_or_not x.arc b) [
   ]
 ]
 
-module _ (g u : Geometry Pos) (old : Arcs) (marks : List Bool) (ending : List Pos) (left : IsLeftBy g u old marks ending) (m : PseudoNodes) (met : AreTold old marks ending m) where
+module _ (g u : Geometry Pos) (old : Arcs) (marks : List Bool) (ending : List Pos) (left : IsLeftBy g u old marks ending) (m : PseudoNodes) (met : AreAnswered old marks ending m) where
   abbrev Kept : ℕ → Type 0
   Kept = IsKept position_cmp g u old.arcs
 
@@ -160,8 +160,8 @@ module _ (g u : Geometry Pos) (old : Arcs) (marks : List Bool) (ending : List Po
     is : run_along old.arcs r ≡ x ∷ rest
     is = runs_are.chain_is g u old marks ending left m met a more w
 
-    told_open : P a ≡ None → P (flipped (last_of a more)) ≡ None → Told r false
-    told_open n e = record {
+    if_open : P a ≡ None → P (flipped (last_of a more)) ≡ None → Told r false
+    if_open n e = record {
       joint = inl (subst (λ v. IsOpenRun Kept J old.arcs (cond b (reverse v) v) (directed b r)) (sym is) (runs_are.open_run g u old marks ending left m met a more w n e b));
       from = λ k h. directed_uses b k r h;
       turns = subst (λ v. ¬ (v ≡ reverse v)) (sym is)
@@ -177,8 +177,8 @@ module _ (g u : Geometry Pos) (old : Arcs) (marks : List Bool) (ending : List Po
         on false = inl refl
         on true = Has-reverse x (x ∷ rest) (inl refl)
 
-    told_loop : P (flipped (last_of a more)) ≡ Some a → Told r true
-    told_loop e = record {
+    if_loop : P (flipped (last_of a more)) ≡ Some a → Told r true
+    if_loop e = record {
       joint = inr both.0;
       from = both.1;
       turns = subst (λ v. ¬ (v ≡ reverse v)) (sym same) (trail_turns (closed (f ∷ s)) long (runs_are.loop_trail g u old marks ending left m met a more w e).once);
@@ -215,19 +215,19 @@ module _ (g u : Geometry Pos) (old : Arcs) (marks : List Bool) (ending : List Po
     paired_first e =
         (flipped (last_of a more), (partners.paired g u old marks ending left m met (flipped (last_of a more)) a (w.stays (last_of a more).arc (uses_last a more)) e).1)
 
-    told_walked : (round : Bool) → is_there (P a) ≡ round → Told r round
-    told_walked false e = elim w.ends [
-      | inl n ↦ told_open n.0 n.1
+    if_walked : (round : Bool) → is_there (P a) ≡ round → Told r round
+    if_walked false e = elim w.ends [
+      | inl n ↦ if_open n.0 n.1
       | inr h ↦ (let t = paired_first h in absurd (let z : true ≡ false = ap is_there (sym t.1) ∙ e in cc))
     ]
-    told_walked true e = elim w.ends [
-      | inr h ↦ told_loop h
+    if_walked true e = elim w.ends [
+      | inr h ↦ if_loop h
       | inl n ↦ absurd (let z : false ≡ true = ap is_there (sym n.0) ∙ e in cc)
     ]
 
-  told : (r : List ArcRef) → IsRun marks P r → Told r (goes_round P r)
-  told [] k = absurd k
-  told (a ∷ more) k = told_walked a more k (is_there (P a)) refl
+  meant : (r : List ArcRef) → IsRun marks P r → Told r (goes_round P r)
+  meant [] k = absurd k
+  meant (a ∷ more) k = if_walked a more k (is_there (P a)) refl
 
   pairwise_with : {A B : Type 0} (R T : A → B → Type 0) (xs : List A) (ys : List B) → ((x : A) (y : B) → R x y → T x y) → Pairwise R xs ys → Pairwise T xs ys
   pairwise_with R T [] [] f p = tt
@@ -236,10 +236,10 @@ module _ (g u : Geometry Pos) (old : Arcs) (marks : List Bool) (ending : List Po
   pairwise_with R T (x ∷ xs) (y ∷ ys) f p = (f x y p.0, pairwise_with R T xs ys f p.1)
 
   -- a list that begins where no arc of it begins at a stop is free
-  begun_free : (c : List Pos) (l : List ArcRef) → IsChainOf position_cmp g c → StitchTo old.arcs l c → ((b : ArcRef) (v : Pos) → Has b l → BeginsAt old.arcs v b → ¬ J v) → ¬ (¬ Free J c)
-  begun_free [] l k s f n = k
-  begun_free (y ∷ q) [] k s f n = cc
-  begun_free (y ∷ q) (b ∷ l) k s f n = elim k.ends [
+  started_free : (c : List Pos) (l : List ArcRef) → IsChainOf position_cmp g c → StitchTo old.arcs l c → ((b : ArcRef) (v : Pos) → Has b l → BeginsAt old.arcs v b → ¬ J v) → ¬ (¬ Free J c)
+  started_free [] l k s f n = k
+  started_free (y ∷ q) [] k s f n = cc
+  started_free (y ∷ q) (b ∷ l) k s f n = elim k.ends [
     | inl j ↦ f b y (inl refl) (s.0, s.2) j.0
     | inr j ↦ n j.1
   ]
@@ -273,8 +273,8 @@ module _ (g u : Geometry Pos) (old : Arcs) (marks : List Bool) (ending : List Po
     -- runs that become one arc are one
     one_run : (r q : List ArcRef) → Has r runs → Has q runs → (piece r).chain ≡ (piece q).chain → r ≡ q
     one_run r q h i e =
-        let a = told r (are.each r h) in
-        let b = told q (are.each q i) in
+        let a = meant r (are.each r h) in
+        let b = meant q (are.each q i) in
         let moved : (j : Joint (piece r).chain (list q)) × ((k : ℕ) →
         Uses k (source position_cmp position_total position_same position_dec u left.sound old.arcs left.table.arcs g left.part (piece r).chain (list q) j) → Uses k q) =
         subst (λ c. (j : Joint c (list q)) × ((k : ℕ) →
@@ -297,9 +297,9 @@ module _ (g u : Geometry Pos) (old : Arcs) (marks : List Bool) (ending : List Po
       forward = λ c h.
           let (r, i, e) = origin c h in
           let x = chain_by old.arcs (goes_round P r) r in
-          subst (λ w. list_cmp w (reverse w) ≡ Less) (sym e) (is_less (list_cmp (least_direction x) (reverse (least_direction x))) (least_first x (told r (are.each r i)).turns));
+          subst (λ w. list_cmp w (reverse w) ≡ Less) (sym e) (is_less (list_cmp (least_direction x) (reverse (least_direction x))) (least_first x (meant r (are.each r i)).turns));
       each = pairwise_with Made Joint t.arcs made (λ c l d.
-          let (r, i, e, f) = d in subst (λ w. Joint w l) (sym e) (subst (Joint (piece r).chain) (sym f) (told r (are.each r i)).joint)) all_made;
+          let (r, i, e, f) = d in subst (λ w. Joint w l) (sym e) (subst (Joint (piece r).chain) (sym f) (meant r (are.each r i)).joint)) all_made;
       all = λ k h.
           let (r, i, w) = are.all k (partners.kept_marked g u old marks ending left m met k h) in
           (number r, subst (Uses k) (sym (list_made r i)) (in_list k r w));
@@ -313,7 +313,7 @@ module _ (g u : Geometry Pos) (old : Arcs) (marks : List Bool) (ending : List Po
             go true =
                 let d = directed (is_backwards_less (chain_by old.arcs (goes_round P r) r)) r in
                 subst (Uses k) (sym (turned_at old.arcs d))
-                (uses_begun (least_place old.arcs d) k d (uses_directed (is_backwards_less (chain_by old.arcs (goes_round P r) r)) k r h))
+                (uses_started (least_index old.arcs d) k d (uses_directed (is_backwards_less (chain_by old.arcs (goes_round P r) r)) k r h))
 
     refined : IsRefinementOf position_cmp g u t.arcs old.arcs made
     refined = (joined_arcs_are_the_arcs position_cmp g u old.arcs (partners.is_part g u old marks ending left m met) t.arcs made).0 joined
@@ -324,14 +324,14 @@ module _ (g u : Geometry Pos) (old : Arcs) (marks : List Bool) (ending : List Po
         (pairwise_at (ArePiecesOfArc position_cmp J (JunctionOf u) old.arcs) t.arcs made refined.cut (number r) (piece r).chain (numbered r h))) [
           | inr k ↦ k.2
           | inl (n, s) ↦
-              absurd (begun_free (piece r).chain (list r) (refined.old.arcs_only (piece r).chain (there r h)).chain s
+              absurd (started_free (piece r).chain (list r) (refined.old.arcs_only (piece r).chain (there r h)).chain s
               (λ b v i begins. no_stop b v i begins) n)
         ]
       where
         no_stop : (b : ArcRef) (v : Pos) → Has b (list r) → BeginsAt old.arcs v b → ¬ J v
         no_stop b v i begins =
-            let k = (told r (are.each r h)).loop e in
-            k.meets b v (has_begun (least_place old.arcs k.from) b k.from (subst (Has b) (k.list ∙ turned_at old.arcs k.from) i)) begins
+            let k = (meant r (are.each r h)).loop e in
+            k.meets b v (has_started (least_index old.arcs k.from) b k.from (subst (Has b) (k.list ∙ turned_at old.arcs k.from) i)) begins
 
     good : (p : Piece) → Has p (map piece runs) → Tells p.free (Free J p.chain)
     good p h =
@@ -345,7 +345,7 @@ module _ (g u : Geometry Pos) (old : Arcs) (marks : List Bool) (ending : List Po
         }
         by_round r i false e = record {
           yes = λ z. absurd (let f : false ≡ true = sym e ∙ z in cc);
-          no = λ z free. let (v, on, j) = (told r (are.each r i)).stops e in free v on j;
+          no = λ z free. let (v, on, j) = (meant r (are.each r i)).stops e in free v on j;
         }
 
     pub heals : IsHealedOf g u old (record { arcs = t; pieces = made })
@@ -368,7 +368,7 @@ module _ (old : Arcs) (marks : List Bool) (ending : List Pos) (numbers slice : L
     (made : List (List ArcRef)) (put : made ≡ put_all those ls (replicate n [])) (result : HealedParts) (is : result ≡ record { arcs = t; pieces = made }) where
   heal_known : (g u : Geometry Pos) → IsLeftBy g u old marks ending → IsHealedOf g u old result
   heal_known g u left =
-      let met' : AreTold old marks ending m =
+      let met' : AreAnswered old marks ending m =
       subst (λ w. Distinct w → (v : Pos) (a : ArcRef) → Begins old.arcs v w a → IsVerdict (Has v ending) (Begins old.arcs v w) (partner_in m) a) (borrowed ∙ chosen) met (numbers_once 0 marks) in
       let same : made ≡ put_all (map (located t.arcs) (map (piece_of_run old.arcs (partner_in m)) runs)) (map (list_of_run old.arcs (partner_in m)) runs) (replicate (length t.arcs) []) =
       put ∙ (λ i. put_all ((borrowed_refs ∙ numbered ∙ ap (map (located t.arcs)) pieces) i) (lists i) (replicate (count i) [])) in

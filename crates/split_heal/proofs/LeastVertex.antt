@@ -8,7 +8,7 @@ use Rattle.std.proofs.lemmas.Fn.{fronts}
 use Rattle.std.specs.declared.slice.Iter.{Iter}
 use Rattle.std.proofs.lemmas.Iterator.{YieldsList-from_slice}
 use Rattle.itertools.proofs.AdaptorLemmas.{items_from_whole_run}
-use Rattle.itertools.specs.Extremes.{place_step, position_of, wins}
+use Rattle.itertools.specs.Extremes.{index_step, position_of, wins}
 use Rattle.grid.specs.declared.pos.Pos.{Pos}
 use Rattle.lines.specs.Turned.{position_cmp}
 use Rattle.split_heal.specs.HealedArcs.{least_vertex, least_vertex_from}
@@ -17,16 +17,16 @@ abbrev comes_before : Bor Pos → Bor Pos → Bool
 comes_before a b = is_lt (position_cmp a.now b.now)
 
 steps_are : (items : List (Bor Pos)) (place : ℕ) (least : Bor Pos) (i : ℕ) →
-    (fold (place_step (wins false comes_before)) (place, least, i) items).0 ≡ least_vertex_from place least.now i (map (λ y. y.now) items)
+    (fold (index_step (wins false comes_before)) (place, least, i) items).0 ≡ least_vertex_from place least.now i (map (λ y. y.now) items)
 steps_are [] place least i = refl
 steps_are (x ∷ items) place least i = go (comes_before x least) (steps_are items i x (i + 1)) (steps_are items place least (i + 1))
   where
     there : ℕ → Bor Pos → ℕ
-    there n y = (fold (place_step (wins false comes_before)) (n, y, i + 1) items).0
+    there n y = (fold (index_step (wins false comes_before)) (n, y, i + 1) items).0
 
     go : (b : Bool) → there i x ≡ least_vertex_from i x.now (i + 1) (map (λ y. y.now) items) →
         there place least ≡ least_vertex_from place least.now (i + 1) (map (λ y. y.now) items) →
-        (fold (place_step (wins false comes_before)) (if b then (i, x, i + 1) else (place, least, i + 1)) items).0
+        (fold (index_step (wins false comes_before)) (if b then (i, x, i + 1) else (place, least, i + 1)) items).0
         ≡ least_vertex_from (cond b i place) (cond b x.now least.now) (i + 1) (map (λ y. y.now) items)
     go true f g = f
     go false f g = g

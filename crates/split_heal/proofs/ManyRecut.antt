@@ -27,7 +27,7 @@ use Rattle.chains.proofs.ArcsCut.{table_alike}
 use Rattle.chains.proofs.ManyAlike.{all_alike, all_sound}
 use Rattle.chains.proofs.ManyTables.{EachIsTable, each_is, line_piece, piece_arc, piece_line, piece_ring, ring_piece}
 use Rattle.chains.proofs.TableOfMap.{are_pieces, line_list, ring_list}
-use Rattle.chains.proofs.TablesAsMap.{has_open, has_loop, told, free_loop}
+use Rattle.chains.proofs.TablesAsMap.{has_open, has_loop, meant, free_loop}
 use Rattle.split_heal.specs.Cutting.{arc_used}
 use Rattle.split_heal.specs.CuttingAll.{IsRecutOfAll}
 use Rattle.split_heal.specs.PartsOfAll.{RecutAllParts, of_table}
@@ -43,7 +43,7 @@ module _ (js : List Pos) (a u : Geometry Pos) (sound : IsSound a) (alike : Alike
   cut c h = go (is_loop old.loops c) refl
     where
       not_free : is_loop old.loops c ≡ false → ¬ Free (JunctionOf g) c
-      not_free e = (told g sg old og c h).no e
+      not_free e = (meant g sg old og c h).no e
 
       go : (b : Bool) → is_loop old.loops c ≡ b →
           ArePiecesOfArc position_cmp (JunctionOf g) (JunctionOf u) new.arcs c (map (located new.arcs) (pieces_at (among js) b c))
@@ -52,7 +52,7 @@ module _ (js : List Pos) (a u : Geometry Pos) (sound : IsSound a) (alike : Alike
           subst (λ w. ArePiecesOfArc position_cmp (JunctionOf g) (JunctionOf u) new.arcs c (map (located new.arcs) w)) (sym (loop_as_ring g sg old og js c h e)) (inr (
             unclosed c,
             (free_loop g sg old og c h e).0,
-            (told g sg old og c h).yes e,
+            (meant g sg old og c h).yes e,
             (k.0, k.1, turned_alike position_cmp position_total position_same position_dec a u alike (unclosed c) k.0 k.1 k.2, k.3),
           ))
       go false e = inl (not_free e, line_list a sound js index ps of_lines of_rings new.arcs sorted c (opens c (has_open old.loops old.arcs c h e)))
@@ -125,8 +125,8 @@ module _ (maps : List (Geometry Pos)) (tables : List Arcs) (are : AreTablesOf ma
       table_alike (all_as_map tables) u alike new
       (of_map (all_as_map tables) sound (are_pieces (all_as_map tables) sound js index ps lines_there rings_there (λ p h. only js tables each p (subst (Has p) pieces h))))
 
-  same_place : (i : ℕ) (m : Geometry Pos) (t : Arcs) → slice_get maps i ≡ Some m → slice_get tables i ≡ Some t → IsTableOf m t
-  same_place i m t e f = go maps tables are.each i e f
+  same_index : (i : ℕ) (m : Geometry Pos) (t : Arcs) → slice_get maps i ≡ Some m → slice_get tables i ≡ Some t → IsTableOf m t
+  same_index i m t e f = go maps tables are.each i e f
     where
       go : (ms : List (Geometry Pos)) (ts : List Arcs) → Pairwise IsTableOf ms ts → (i : ℕ) → slice_get ms i ≡ Some m → slice_get ts i ≡ Some t → IsTableOf m t
       go [] ts p i e f = absurd cc
@@ -141,6 +141,6 @@ module _ (maps : List (Geometry Pos)) (tables : List Arcs) (are : AreTablesOf ma
         let h = get_has tables i t k in
         subst (λ (w : Arcs). IsRefinementOf position_cmp m u t.arcs w.arcs (of_table i r)) (sym e)
         (subst (IsRefinementOf position_cmp m u t.arcs new.arcs) (sym (lists i t k))
-        (refines js (all_as_map tables) u sound alike index ps lines_there rings_there new sorted table m (are.sound m (get_has maps i m f)) t (same_place i m t f k)
+        (refines js (all_as_map tables) u sound alike index ps lines_there rings_there new sorted table m (are.sound m (get_has maps i m f)) t (same_index i m t f k)
         (λ l o. Has-gathered lines_of_table tables t l h o) (λ r o. Has-gathered rings_of_table tables t r h o)));
   }

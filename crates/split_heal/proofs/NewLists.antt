@@ -104,7 +104,7 @@ module _ (arcs : List (List Pos)) (pieces : List (List ArcRef)) (used list : Lis
       IsRefinementOf position_cmp g u arcs old pieces → IsLineOf g l → StitchTo old used l → StitchTo arcs list l
   healed_line_list e g u old l su part ref h k = line_at g u old su part ref e l h k
 
-  pub ring_told : list ≡ healed_ring_list position_cmp arcs (starts_by pieces) used → (g u : Geometry Pos) (old : List (List Pos)) (r : List Pos) → IsSound u → IsPartOf g u →
+  pub ring_says : list ≡ healed_ring_list position_cmp arcs (starts_by pieces) used → (g u : Geometry Pos) (old : List (List Pos)) (r : List Pos) → IsSound u → IsPartOf g u →
       IsRefinementOf position_cmp g u arcs old pieces → IsRingOf g r → IsRingList position_cmp (JunctionOf u) old r used →
       IsRingList position_cmp (JunctionOf g) arcs r list
-  ring_told e g u old r su part ref h k = ring_at g u old su part ref e r h k
+  ring_says e g u old r su part ref h k = ring_at g u old su part ref e r h k

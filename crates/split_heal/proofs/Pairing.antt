@@ -7,22 +7,22 @@ use Rattle.theory.specs.ArcNumbers.{ArcRef}
 use Rattle.theory.specs.Lists.{Distinct, Has}
 use Rattle.theory.proofs.Lists.{Has-append, Has-append_left, Has-append_right}
 use Rattle.grid.specs.declared.pos.Pos.{Pos}
-use Rattle.lines.specs.ByVertex.{StandByVertex, count_at}
+use Rattle.lines.specs.ByVertex.{AreByVertex, count_at}
 use Rattle.lines.proofs.ByVertex.{behind_at, here_at}
 use Rattle.lines.proofs.Positions.{true_false}
 use Rattle.lines.proofs.SortedLists.{Has-permutation}
 use Rattle.arcs.specs.Among.{among}
 use Rattle.chains.proofs.Among.{among_has, has_among}
-use Rattle.split_heal.specs.ArcUseMap.{with_noted}
+use Rattle.split_heal.specs.ArcUseMap.{with_recorded}
 use Rattle.split_heal.specs.declared.pseudo_nodes.ArcEnd.{ArcEnd}
 use Rattle.split_heal.specs.PseudoNodes.{AreGrouped, Begins, IsVerdict, all_ends, end_at, paired, used_at, vertex_of, with_pair}
-use Rattle.split_heal.proofs.ByUses.{noted_here, noted_other}
+use Rattle.split_heal.proofs.ByUses.{recorded_here, recorded_other}
 use Rattle.split_heal.proofs.PartnersMeet.{begins_end, end_cmp, ends_begin, sorted_grouped}
 
 -- what is told of those that meet holds of those that meet as well by another word
-pub told_alike : (S T : Type 0) (H G : ArcRef → Type 0) (f : ArcRef → Option ArcRef) (a : ArcRef) → (S → T) → (T → S) → ((p : ArcRef) → H p → G p) → ((p : ArcRef) → G p → H p) →
+pub if_alike : (S T : Type 0) (H G : ArcRef → Type 0) (f : ArcRef → Option ArcRef) (a : ArcRef) → (S → T) → (T → S) → ((p : ArcRef) → H p → G p) → ((p : ArcRef) → G p → H p) →
     IsVerdict S H f a → IsVerdict T G f a
-told_alike S T H G f a st ts hg gh (inl s) = inl (record {
+if_alike S T H G f a st ts hg gh (inl s) = inl (record {
   none = s.none;
   why = elim s.why [
     | inl k ↦ inl (st k)
@@ -40,7 +40,7 @@ told_alike S T H G f a st ts hg gh (inl s) = inl (record {
     }))
   ];
 })
-told_alike S T H G f a st ts hg gh (inr (b, k)) = inr (
+if_alike S T H G f a st ts hg gh (inr (b, k)) = inr (
   b,
   record {
     there = k.there;
@@ -53,9 +53,9 @@ told_alike S T H G f a st ts hg gh (inr (b, k)) = inr (
 )
 
 -- they stand vertex by vertex
-grouped_stand : (l : List ArcEnd) → AreGrouped l → StandByVertex vertex_of l
-grouped_stand [] g = tt
-grouped_stand (e ∷ l) g = ((λ d h. (g.0 d h).0), grouped_stand l g.1)
+grouped_hold : (l : List ArcEnd) → AreGrouped l → AreByVertex vertex_of l
+grouped_hold [] g = tt
+grouped_hold (e ∷ l) g = ((λ d h. (g.0 d h).0), grouped_hold l g.1)
 
 Grouped-behind : (xs ys : List ArcEnd) → AreGrouped (xs ++ ys) → AreGrouped ys
 Grouped-behind [] ys g = g
@@ -79,7 +79,7 @@ pair_keeps stops first (d ∷ []) f q n m = go (among stops first.vertex)
     go : (b : Bool) → cond b f (paired (used_at first) (used_at d) f) q ≡ f q
     go true = refl
     go false =
-        noted_other (used_at d) (used_at first) (with_noted (used_at first) (used_at d) f) q (m d (inl refl)) ∙ noted_other (used_at first) (used_at d) f q n
+        recorded_other (used_at d) (used_at first) (with_recorded (used_at first) (used_at d) f) q (m d (inl refl)) ∙ recorded_other (used_at first) (used_at d) f q n
 pair_keeps stops first (d ∷ (c ∷ l)) f q n m = refl
 
 module _ (stops : List Pos) (ends : List ArcEnd) where
@@ -91,16 +91,16 @@ module _ (stops : List Pos) (ends : List ArcEnd) where
   Told f v a = IsVerdict (Has v stops) (Meet v) f a
 
   -- what is noted of the ends at one vertex
-  group_told : (first : ArcEnd) (here : List ArcEnd) (f g : ArcRef → Option ArcRef) → ((q : ArcRef) → g q ≡ with_pair stops first here f q) →
+  group_means : (first : ArcEnd) (here : List ArcEnd) (f g : ArcRef → Option ArcRef) → ((q : ArcRef) → g q ≡ with_pair stops first here f q) →
       ((x : ArcEnd) → Has x (first ∷ here) → f (used_at x) ≡ None) → AreGrouped (first ∷ here) →
       ((b : ArcRef) → Meet first.vertex b → Has (end_at first.vertex b) (first ∷ here)) → ((x : ArcEnd) → Has x (first ∷ here) → Meet first.vertex (used_at x)) →
       (x : ArcEnd) → Has x (first ∷ here) → Told g first.vertex (used_at x)
-  group_told first [] f g e none gr only meet x (inr z) = absurd z
-  group_told first [] f g e none gr only meet x (inl i) = inl (record {
+  group_means first [] f g e none gr only meet x (inr z) = absurd z
+  group_means first [] f g e none gr only meet x (inl i) = inl (record {
     none = e (used_at x) ∙ none x (inl i);
     why = inr (inl (λ b h. elim (only b h) [ inl j ↦ ap used_at j ∙ sym (ap used_at i) | inr z ↦ absurd z ]));
   })
-  group_told first (d ∷ (c ∷ l)) f g e none gr only meet x h = inl (record {
+  group_means first (d ∷ (c ∷ l)) f g e none gr only meet x h = inl (record {
     none = e (used_at x) ∙ none x h;
     why = inr (inr (record {
       one = used_at first;
@@ -114,7 +114,7 @@ module _ (stops : List Pos) (ends : List ArcEnd) where
       two_three = (gr.1.0 c (inl refl)).1;
     }));
   })
-  group_told first (d ∷ []) f g e none gr only meet x h = go (among stops first.vertex) refl e
+  group_means first (d ∷ []) f g e none gr only meet x h = go (among stops first.vertex) refl e
     where
       a : ArcRef
       a = used_at first
@@ -131,8 +131,8 @@ module _ (stops : List Pos) (ends : List ArcEnd) where
       go : (s : Bool) → among stops first.vertex ≡ s → ((q : ArcRef) → g q ≡ cond s f (paired a b f) q) → Told g first.vertex (used_at x)
       go true t k = inl (record { none = k (used_at x) ∙ none x h; why = inl (among_has stops first.vertex t) })
       go false t k =
-          let ahead : g a ≡ Some b = k a ∙ noted_other b a (with_noted a b f) a (λ z. differ (sym z)) ∙ noted_here a b f in
-          let back : g b ≡ Some a = k b ∙ noted_here b a (with_noted a b f) in
+          let ahead : g a ≡ Some b = k a ∙ recorded_other b a (with_recorded a b f) a (λ z. differ (sym z)) ∙ recorded_here a b f in
+          let back : g b ≡ Some a = k b ∙ recorded_here b a (with_recorded a b f) in
           let no_end : ¬ Has first.vertex stops = (λ i. true_false (among stops first.vertex) (has_among stops first.vertex i) t) in
           elim h [
             | inl i ↦ subst (Told g first.vertex) (sym (ap used_at i)) (inr (
@@ -167,7 +167,7 @@ module _ (stops : List Pos) (ends : List ArcEnd) where
     pub grouped : AreGrouped left
     pub other : (x y : ArcEnd) → Has x done → Has y left → ¬ (x.vertex ≡ y.vertex)
     pub apart : (x y : ArcEnd) → Has x done → Has y left → ¬ (used_at x ≡ used_at y)
-    pub told : (v : Pos) (a : ArcRef) → Has (end_at v a) done → Told f v a
+    pub meant : (v : Pos) (a : ArcRef) → Has (end_at v a) done → Told f v a
     pub none : (x : ArcEnd) → Has x left → f (used_at x) ≡ None
 
   pub pairing_starts : (f : ArcRef → Option ArcRef) → AreGrouped ends → ((q : ArcRef) → f q ≡ None) → Paired ends f
@@ -177,12 +177,12 @@ module _ (stops : List Pos) (ends : List ArcEnd) where
     grouped = g;
     other = λ x y h. absurd h;
     apart = λ x y h. absurd h;
-    told = λ v a h. absurd h;
+    meant = λ v a h. absurd h;
     none = λ x h. n (used_at x);
   }
 
   pub pairing_over : (left : List ArcEnd) (f : ArcRef → Option ArcRef) → left ≡ [] → Paired left f → (v : Pos) (a : ArcRef) → Meet v a → Told f v a
-  pairing_over left f e p v a h = p.told v a (subst (Has (end_at v a)) (p.is ∙ ap (λ w. p.done ++ w) e ∙ append-nil p.done) h)
+  pairing_over left f e p v a h = p.meant v a (subst (Has (end_at v a)) (p.is ∙ ap (λ w. p.done ++ w) e ∙ append-nil p.done) h)
 
   -- the ends at one vertex: the first of those that are left, and those that follow it there
   module _ (first : ArcEnd) (here behind : List ArcEnd) (f g : ArcRef → Option ArcRef) (p : Paired (first ∷ (here ++ behind)) f)
@@ -219,12 +219,12 @@ module _ (stops : List Pos) (ends : List ArcEnd) where
     same : ((q : ArcRef) → g q ≡ with_pair stops first here f q) → (q : ArcRef) → ((x : ArcEnd) → Has x (first ∷ here) → ¬ (used_at x ≡ q)) → g q ≡ f q
     same e q n = e q ∙ pair_keeps stops first here f q (n first (inl refl)) (λ d h. n d (inr h))
 
-    told_still : ((q : ArcRef) → g q ≡ with_pair stops first here f q) → (w : Pos) (a : ArcRef) → Has (end_at w a) p.done → Told f w a → Told g w a
-    told_still e w a h (inl s) = inl (record {
+    if_still : ((q : ArcRef) → g q ≡ with_pair stops first here f q) → (w : Pos) (a : ArcRef) → Has (end_at w a) p.done → Told f w a → Told g w a
+    if_still e w a h (inl s) = inl (record {
       none = same e a (λ x i k. p.apart (end_at w a) x h (in_here x i) (sym k)) ∙ s.none;
       why = s.why;
     })
-    told_still e w a h (inr (b, k)) = inr (
+    if_still e w a h (inr (b, k)) = inr (
       b,
       record {
         there = same e a (λ x i z. p.apart (end_at w a) x h (in_here x i) (sym z)) ∙ k.there;
@@ -255,11 +255,11 @@ module _ (stops : List Pos) (ends : List ArcEnd) where
         | inl j ↦ p.apart x y j (in_behind y i)
         | inr j ↦ Grouped-apart (first ∷ here) behind p.grouped x y j i
       ];
-      told = λ w a h. elim (Has-append (end_at w a) p.done (first ∷ here) h) [
-        | inl j ↦ told_still e w a j (p.told w a j)
+      meant = λ w a h. elim (Has-append (end_at w a) p.done (first ∷ here) h) [
+        | inl j ↦ if_still e w a j (p.meant w a j)
         | inr j ↦
             subst (λ z. Told g z a) (sym (at_first (end_at w a) j))
-            (group_told first here f g e (λ x k. p.none x (in_here x k)) (Grouped-front (first ∷ here) behind p.grouped) only_here meet (end_at w a) j)
+            (group_means first here f g e (λ x k. p.none x (in_here x k)) (Grouped-front (first ∷ here) behind p.grouped) only_here meet (end_at w a) j)
       ];
       none = λ x h. same e (used_at x) (λ y i. Grouped-apart (first ∷ here) behind p.grouped y x i h) ∙ p.none x (in_behind x h);
     }
@@ -272,16 +272,16 @@ module _ (stops : List Pos) (ends : List ArcEnd) where
       let grouped : AreGrouped (first ∷ others) = subst AreGrouped l p.grouped in
       advance first here behind f g (subst (λ w. Paired w f) (l ∙ ap (λ w. first ∷ w) split) p)
       (λ x k. here_at vertex_of first.vertex others x (subst (Has x) (h ∙ ap (λ m. take m others) c) k))
-      (λ x k. behind_at vertex_of first.vertex others (λ y i. (grouped.0 y i).0) (grouped_stand others grouped.1) x (subst (Has x) (b ∙ ap (λ m. drop m others) c) k)) e
+      (λ x k. behind_at vertex_of first.vertex others (λ y i. (grouped.0 y i).0) (grouped_hold others grouped.1) x (subst (Has x) (b ∙ ap (λ m. drop m others) c) k)) e
 
 -- what is told of the sorted ends is told of the used arcs that begin at a vertex
-pub meeting_told : (arcs : List (List Pos)) (ks : List ℕ) (ending stops : List Pos) (l slice : List ArcEnd) (f : ArcRef → Option ArcRef) → ((p : Pos) → Has p stops ↔ Has p ending) →
+pub meeting_means : (arcs : List (List Pos)) (ks : List ℕ) (ending stops : List Pos) (l slice : List ArcEnd) (f : ArcRef → Option ArcRef) → ((p : Pos) → Has p stops ↔ Has p ending) →
     IsPermutation (all_ends arcs ks) l → IsSorted end_cmp l → slice ≡ l →
     (AreGrouped slice → (v : Pos) (a : ArcRef) → Has (end_at v a) slice → IsVerdict (Has v stops) (λ b. Has (end_at v b) slice) f a) →
     Distinct ks → (v : Pos) (a : ArcRef) → Begins arcs v ks a → IsVerdict (Has v ending) (Begins arcs v ks) f a
-meeting_told arcs ks ending stops l slice f alike p s e told once v a b =
-    told_alike (Has v stops) (Has v ending) (λ q. Has (end_at v q) slice) (Begins arcs v ks) f a (alike v).0 (alike v).1 back to
-    (told (subst AreGrouped (sym e) (sorted_grouped arcs ks l once p s)) v a (to a b))
+meeting_means arcs ks ending stops l slice f alike p s e meant once v a b =
+    if_alike (Has v stops) (Has v ending) (λ q. Has (end_at v q) slice) (Begins arcs v ks) f a (alike v).0 (alike v).1 back to
+    (meant (subst AreGrouped (sym e) (sorted_grouped arcs ks l once p s)) v a (to a b))
   where
     to : (q : ArcRef) → Begins arcs v ks q → Has (end_at v q) slice
     to q h = subst (Has (end_at v q)) (sym e) (Has-permutation (all_ends arcs ks) l (end_at v q) p (begins_end arcs ks v q h))

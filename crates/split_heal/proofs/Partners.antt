@@ -13,7 +13,7 @@ use Rattle.theory.specs.HealingLaws.{IsLeft}
 use Rattle.theory.specs.Validity.{BeginsAt}
 use Rattle.theory.specs.TopologyFunction.{is_junction}
 use Rattle.theory.proofs.ArcNumbers.{taken_of, uses_along}
-use Rattle.theory.proofs.JunctionTest.{is_told, junction_told}
+use Rattle.theory.proofs.JunctionTest.{is_answered, junction_means}
 use Rattle.theory.proofs.OneTopology.{along_chain}
 use Rattle.theory.proofs.HealingProved.{kept_arcs_tell, two_ends_meet}
 use Rattle.arcs.specs.Arcs.{Arcs}
@@ -36,11 +36,11 @@ is_mark (b ∷ l) zero e = let f : Some b ≡ Some true = e in cc
 is_mark (b ∷ l) (suc k) e = is_mark l k e
 
 -- the meeting tells of each end of a marked arc where it goes on
-abbrev pub AreTold : Arcs → List Bool → List Pos → PseudoNodes → Type 0
-AreTold old marks ending m =
+abbrev pub AreAnswered : Arcs → List Bool → List Pos → PseudoNodes → Type 0
+AreAnswered old marks ending m =
     (v : Pos) (a : ArcRef) → Begins old.arcs v (kept_numbers 0 marks) a → IsVerdict (Has v ending) (Begins old.arcs v (kept_numbers 0 marks)) (partner_in m) a
 
-module _ (g u : Geometry Pos) (old : Arcs) (marks : List Bool) (ending : List Pos) (left : IsLeftBy g u old marks ending) (m : PseudoNodes) (met : AreTold old marks ending m) where
+module _ (g u : Geometry Pos) (old : Arcs) (marks : List Bool) (ending : List Pos) (left : IsLeftBy g u old marks ending) (m : PseudoNodes) (met : AreAnswered old marks ending m) where
   abbrev pub Kept : ℕ → Type 0
   Kept = IsKept position_cmp g u old.arcs
 
@@ -166,10 +166,10 @@ module _ (g u : Geometry Pos) (old : Arcs) (marks : List Bool) (ending : List Po
   stopped a v ka here (inr (inl only)) = go (is_junction position_cmp g v) refl
     where
       go : (b : Bool) → is_junction position_cmp g v ≡ b → JunctionOf g v
-      go true f = junction_told position_cmp position_total position_same g v f
+      go true f = junction_means position_cmp position_total position_same g v f
       go false f =
           let two = two_ends_meet position_cmp g u old.arcs is_part v a ka here
-          (λ j. true_false (is_junction position_cmp g v) (is_told position_cmp position_total position_same g v j) f) in
+          (λ j. true_false (is_junction position_cmp g v) (is_answered position_cmp position_total position_same g v j) f) in
           absurd (two.1 (sym (only two.0 (begins v two.0 two.2 two.3))))
 
   -- where none is, a junction is left

@@ -12,7 +12,7 @@ use Rattle.theory.specs.Lists.{Has, Pairwise}
 use Rattle.theory.proofs.Ascending.{get_once, less_self}
 use Rattle.arcs.specs.Table.{located, number_in}
 use Rattle.arcs.specs.declared.piece.Piece.{Piece}
-use Rattle.arcs.proofs.Places.{place_of_member}
+use Rattle.arcs.proofs.Places.{index_of_member}
 use Rattle.split_heal.specs.HealedArcs.{put_all}
 use Rattle.split_heal.proofs.WalkedRuns.{number_dec}
 
@@ -57,7 +57,7 @@ module _ (runs : List (List ArcRef)) (piece : List ArcRef → Piece) (list : Lis
   Sofar rest made = (i : ℕ) (c : List Pos) (l : List ArcRef) → slice_get arcs i ≡ Some c → slice_get made i ≡ Some l → Made c l ⊎ Pending c rest
 
   pub numbered : (r : List ArcRef) → Has r runs → slice_get arcs (number_in arcs (piece r)) ≡ Some (piece r).chain
-  numbered r h = place_of_member (piece r).chain arcs (there r h)
+  numbered r h = index_of_member (piece r).chain arcs (there r h)
 
   put : (rest made : List (List ArcRef)) → ((r : List ArcRef) → Has r rest → Has r runs) → Sofar rest made → Sofar [] (put_all (map (located arcs) (map piece rest)) (map list rest) made)
   put [] made sub f = f

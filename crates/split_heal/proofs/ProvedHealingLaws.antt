@@ -14,7 +14,7 @@ use Rattle.lines.specs.Turned.{position_cmp}
 use Rattle.lines.specs.Positions.{position_total, position_same}
 use Rattle.lines.proofs.Positions.{position_dec}
 use Rattle.arcs.specs.Arcs.{Arcs}
-use Rattle.split_heal.specs.HealingLaws.{KeptStandOnce, OnePieces, OthersStandNowhere, StandsOnce}
+use Rattle.split_heal.specs.HealingLaws.{KeptArcsOccurOnce, OnePieces, OthersOccurNowhere, OccursOnce}
 use Rattle.split_heal.specs.HealedParts.{HealedParts}
 use Rattle.split_heal.specs.Healing.{IsHealedOf}
 
@@ -52,8 +52,8 @@ module _ (g u : Geometry Pos) (su : IsSound u) (part : IsPartOf g u) (old : Arcs
         (λ are. t.1 ∙ ap Some (pieces_unique position_cmp position_total position_same position_dec (JunctionOf g) u su old.arcs is.refined.new c t.0 used t.2 are)),
       )
 
-  stands_once : (k : ℕ) (d : List Pos) (v w : Pos) → slice_get old.arcs k ≡ Some d → Beside v w d → SegmentOf g v w → StandsOnce g r.pieces k d
-  stands_once k d v w e b s =
+  occurs_once : (k : ℕ) (d : List Pos) (v w : Pos) → slice_get old.arcs k ≡ Some d → Beside v w d → SegmentOf g v w → OccursOnce g r.pieces k d
+  occurs_once k d v w e b s =
       let t = laws.kept k d v w e b s in
       record {
         number = t.0;
@@ -75,8 +75,8 @@ module _ (g u : Geometry Pos) (su : IsSound u) (part : IsPartOf g u) (old : Arcs
 pub one_pieces : OnePieces
 one_pieces g u su part old r is = one_list g u su part old r is
 
-pub kept_stand_once : KeptStandOnce
-kept_stand_once g u su part old r is = stands_once g u su part old r is
+pub kept_arcs_occur_once : KeptArcsOccurOnce
+kept_arcs_occur_once g u su part old r is = occurs_once g u su part old r is
 
-pub others_stand_nowhere : OthersStandNowhere
-others_stand_nowhere g u su part old r is = nowhere g u su part old r is
+pub others_occur_nowhere : OthersOccurNowhere
+others_occur_nowhere g u su part old r is = nowhere g u su part old r is

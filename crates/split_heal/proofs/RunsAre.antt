@@ -22,13 +22,13 @@ use Rattle.theory.proofs.ReplacedNumbers.{rotation_reverse}
 use Rattle.theory.proofs.Rotations.{rotation_ring, rotation_trans}
 use Rattle.theory.proofs.ValidMaps.{list_line, list_ring}
 use Rattle.arcs.specs.Arcs.{Arcs}
-use Rattle.split_heal.specs.HealedArcs.{begun_at, directed, from_least, least_vertex, least_vertex_from, list_by, run_along, without_last}
+use Rattle.split_heal.specs.HealedArcs.{started_at, directed, from_least, least_vertex, least_vertex_from, list_by, run_along, without_last}
 use Rattle.split_heal.specs.PseudoNodes.{partner_in}
 use Rattle.split_heal.specs.Healing.{IsLeftBy}
 use Rattle.split_heal.specs.Walks.{IsWalked, Linked, is_left}
 use Rattle.split_heal.specs.declared.pseudo_nodes.PseudoNodes.{PseudoNodes}
 use Rattle.split_heal.proofs.Partners as partners
-use Rattle.split_heal.proofs.Partners.{AreTold}
+use Rattle.split_heal.proofs.Partners.{AreAnswered}
 use Rattle.split_heal.proofs.Stitches as stitches
 use Rattle.split_heal.proofs.Stitches.{follow_back, front_is, once_back, one_begin, run_stitched, stitch_reverse, uses_has}
 use Rattle.split_heal.proofs.WalkedRuns.{uses_last}
@@ -78,8 +78,8 @@ least_go done a m b (y ∷ t) place e p h = go (λ a m b place. least_go (done +
           | inr (inr z) ↦ absurd z
         ]))
 
-begun_parted : {A : Type 0} (before : List A) (f : A) (behind : List A) → begun_at (length before) (before ++ (f ∷ behind)) ≡ f ∷ (behind ++ before)
-begun_parted {A = A} before f behind = (λ i. drop_part before i ++ take_part before i)
+started_parted : {A : Type 0} (before : List A) (f : A) (behind : List A) → started_at (length before) (before ++ (f ∷ behind)) ≡ f ∷ (behind ++ before)
+started_parted {A = A} before f behind = (λ i. drop_part before i ++ take_part before i)
   where
     drop_part : (l : List A) → drop (length l) (l ++ (f ∷ behind)) ≡ f ∷ behind
     drop_part [] = refl
@@ -90,10 +90,10 @@ begun_parted {A = A} before f behind = (λ i. drop_part before i ++ take_part be
     take_part (x ∷ l) = ap (λ w. x ∷ w) (take_part l)
 
 -- a list, begun at its least vertex
-pub least_begun : (x : Pos) (t : List Pos) → (f : Pos) × (s : List Pos) × (begun_at (least_vertex (x ∷ t)) (x ∷ t) ≡ f ∷ s) × IsRotation (x ∷ t) (f ∷ s) × Least f (x ∷ t)
-least_begun x t =
+pub least_started : (x : Pos) (t : List Pos) → (f : Pos) × (s : List Pos) × (started_at (least_vertex (x ∷ t)) (x ∷ t) ≡ f ∷ s) × IsRotation (x ∷ t) (f ∷ s) × Least f (x ∷ t)
+least_started x t =
     let r = least_go (x ∷ []) [] x [] t 0 refl refl (λ v i. elim i [ inl j ↦ subst (AtMost position_cmp x) (sym j) (at_most_self position_cmp position_total position_same x) | inr z ↦ absurd z ]) in
-    (r.0, r.2 ++ r.1, (λ i. begun_at (r.4 i) (r.3 i)) ∙ begun_parted r.1 r.0 r.2, (r.1, r.0 ∷ r.2, r.3, refl), r.5)
+    (r.0, r.2 ++ r.1, (λ i. started_at (r.4 i) (r.3 i)) ∙ started_parted r.1 r.0 r.2, (r.1, r.0 ∷ r.2, r.3, refl), r.5)
 
 closed_back : (p : Pos) (q : List Pos) → reverse (closed (p ∷ q)) ≡ closed (p ∷ reverse q)
 closed_back p q = reverse-snoc p (q ++ (p ∷ [])) ∙ ap (λ w. w ++ (p ∷ [])) (reverse-join q (p ∷ []))
@@ -132,7 +132,7 @@ pub least_within : (l : List Pos) → least_vertex l ≤ length l
 least_within [] = omega arith
 least_within (x ∷ t) = let k = least_within_from t 0 x 1 (omega arith) in omega (arith, k)
 
-module _ (g u : Geometry Pos) (old : Arcs) (marks : List Bool) (ending : List Pos) (left : IsLeftBy g u old marks ending) (m : PseudoNodes) (met : AreTold old marks ending m) where
+module _ (g u : Geometry Pos) (old : Arcs) (marks : List Bool) (ending : List Pos) (left : IsLeftBy g u old marks ending) (m : PseudoNodes) (met : AreAnswered old marks ending m) where
   abbrev pub Kept : ℕ → Type 0
   Kept = IsKept position_cmp g u old.arcs
 
@@ -227,11 +227,11 @@ module _ (g u : Geometry Pos) (old : Arcs) (marks : List Bool) (ending : List Po
       abbrev pub ring : (t : List Pos) × (without_last (s.begin ∷ s.rest) ≡ s.begin ∷ t) × (s.begin ∷ s.rest ≡ closed (s.begin ∷ t))
       ring = closed_is s.begin s.rest comes_back line.long
 
-      abbrev pub turn : (f : Pos) × (r : List Pos) × (begun_at (least_vertex (s.begin ∷ ring.0)) (s.begin ∷ ring.0) ≡ f ∷ r) × IsRotation (s.begin ∷ ring.0) (f ∷ r) × Least f (s.begin ∷ ring.0)
-      turn = least_begun s.begin ring.0
+      abbrev pub turn : (f : Pos) × (r : List Pos) × (started_at (least_vertex (s.begin ∷ ring.0)) (s.begin ∷ ring.0) ≡ f ∷ r) × IsRotation (s.begin ∷ ring.0) (f ∷ r) × Least f (s.begin ∷ ring.0)
+      turn = least_started s.begin ring.0
 
       pub loop_is : from_least (s.begin ∷ s.rest) ≡ closed (turn.0 ∷ turn.1)
-      loop_is = ap (λ l. closed (begun_at (least_vertex l) l)) ring.1 ∙ ap closed turn.2
+      loop_is = ap (λ l. closed (started_at (least_vertex l) l)) ring.1 ∙ ap closed turn.2
 
       is_ring : IsRing (s.begin ∷ ring.0)
       is_ring =

@@ -20,7 +20,7 @@ use Rattle.split_heal.specs.Healing.{IsLeftBy}
 use Rattle.split_heal.specs.Walks.{ArePaired, Linked, is_left}
 use Rattle.split_heal.specs.declared.pseudo_nodes.PseudoNodes.{PseudoNodes}
 use Rattle.split_heal.proofs.Partners as partners
-use Rattle.split_heal.proofs.Partners.{AreTold}
+use Rattle.split_heal.proofs.Partners.{AreAnswered}
 use Rattle.split_heal.proofs.WalkedRuns.{flip_flip}
 
 -- a list without its last
@@ -129,7 +129,7 @@ uses_has x (y ∷ l) (inr h) = inr (uses_has x l h)
 pub one_begin : (arcs : List (List Pos)) (a : ArcRef) (v w : Pos) → BeginsAt arcs v a → BeginsAt arcs w a → v ≡ w
 one_begin arcs a v w s t = let e : Some (v ∷ s.0) ≡ Some (w ∷ t.0) = sym s.1 ∙ t.1 in cc
 
-module _ (g u : Geometry Pos) (old : Arcs) (marks : List Bool) (ending : List Pos) (left : IsLeftBy g u old marks ending) (m : PseudoNodes) (met : AreTold old marks ending m) where
+module _ (g u : Geometry Pos) (old : Arcs) (marks : List Bool) (ending : List Pos) (left : IsLeftBy g u old marks ending) (m : PseudoNodes) (met : AreAnswered old marks ending m) where
   abbrev pub Kept : ℕ → Type 0
   Kept = IsKept position_cmp g u old.arcs
 

@@ -24,7 +24,7 @@ use Rattle.chains.proofs.ArcsCut.{table_alike}
 use Rattle.lines.specs.Positions.{position_total, position_same}
 use Rattle.lines.proofs.Positions.{position_dec}
 use Rattle.chains.proofs.TableOfMap.{are_pieces, line_list, ring_list}
-use Rattle.chains.proofs.TablesAsMap.{open_has, has_open, loop_has, has_loop, told, free_loop, tables_sound, tables_alike}
+use Rattle.chains.proofs.TablesAsMap.{open_has, has_open, loop_has, has_loop, meant, free_loop, tables_sound, tables_alike}
 use Rattle.split_heal.specs.Cutting.{arc_used, IsRecutOf}
 use Rattle.split_heal.specs.SplitParts.{RecutParts}
 
@@ -115,7 +115,7 @@ module _ (s t : Arcs) (js : List Pos) (index : IsIndexOf js (tables_as_map s t))
       cut c h = go (is_loop old.loops c) refl
         where
           not_free : is_loop old.loops c ≡ false → ¬ Free (JunctionOf g) c
-          not_free e = (told g sg old og c h).no e
+          not_free e = (meant g sg old og c h).no e
 
           go : (b : Bool) → is_loop old.loops c ≡ b →
               ArePiecesOfArc position_cmp (JunctionOf g) (JunctionOf u) new.arcs c (map (located new.arcs) (pieces_at (among js) b c))
@@ -124,7 +124,7 @@ module _ (s t : Arcs) (js : List Pos) (index : IsIndexOf js (tables_as_map s t))
               subst (λ w. ArePiecesOfArc position_cmp (JunctionOf g) (JunctionOf u) new.arcs c (map (located new.arcs) w)) (sym (loop_as_ring g sg old og js c h e)) (inr (
                 unclosed c,
                 (free_loop g sg old og c h e).0,
-                (told g sg old og c h).yes e,
+                (meant g sg old og c h).yes e,
                 (k.0, k.1, turned_alike position_cmp position_total position_same position_dec a u alike (unclosed c) k.0 k.1 k.2, k.3),
               ))
           go false e = inl (not_free e, line_list a sound js index ps of_lines of_rings new.arcs sorted c (opens c (has_open old.loops old.arcs c h e)))

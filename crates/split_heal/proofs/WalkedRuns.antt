@@ -5,7 +5,7 @@ use Rattle.theory.specs.ArcNumbers.{ArcRef, Uses, UsesOnce, flipped}
 use Rattle.theory.specs.Lists.{last_of}
 use Rattle.theory.proofs.Lists.{Has-append, Has-append_left, Has-append_right}
 use Rattle.lines.proofs.Positions.{bool_split, true_false}
-use Rattle.split_heal.specs.Walks.{Adds, AddsBegun, AddsSingle, ArePaired, AreRuns, AreWalked, EndsGone, Goes, GoesOn, IsRun, Linked, Walk, count_left, is_left, without}
+use Rattle.split_heal.specs.Walks.{Adds, AddsStarted, AddsSingle, ArePaired, AreRuns, AreWalked, EndsGone, Goes, GoesOn, IsRun, Linked, Walk, count_left, is_left, without}
 
 -- taking an arc
 left_gone : (left : List Bool) (k : ℕ) → is_left (without left k) k ≡ false
@@ -355,9 +355,9 @@ module _ (marks : List Bool) (partner : ArcRef → Option ArcRef) (paired : AreP
         taken = used_gone left runs w from there rest after g from.arc (inl refl);
       }
 
-  begun_with : (left after : List Bool) (runs more : List (List ArcRef)) (from : ArcRef) → AreWalked marks partner left runs →
-      AddsBegun partner left runs from after more → AreWalked marks partner after more × ((k : ℕ) → is_left left k ≡ false → is_left after k ≡ false) × (partner from ≡ None → is_left after from.arc ≡ false)
-  begun_with left after runs more from w (inl (why, f, m)) = (
+  started_with : (left after : List Bool) (runs more : List (List ArcRef)) (from : ArcRef) → AreWalked marks partner left runs →
+      AddsStarted partner left runs from after more → AreWalked marks partner after more × ((k : ℕ) → is_left left k ≡ false → is_left after k ≡ false) × (partner from ≡ None → is_left after from.arc ≡ false)
+  started_with left after runs more from w (inl (why, f, m)) = (
     subst (λ v. AreWalked marks partner v more) (sym f) (subst (AreWalked marks partner left) (sym m) w),
     (λ k g. ap (λ v. is_left v k) f ∙ g),
     (λ n. elim why [
@@ -365,7 +365,7 @@ module _ (marks : List Bool) (partner : ArcRef → Option ArcRef) (paired : AreP
       | inr (b, e) ↦ (let z : None ≡ Some b = sym n ∙ e in absurd cc)
     ]),
   )
-  begun_with left after runs more from w (inr (n, a)) =
+  started_with left after runs more from w (inr (n, a)) =
       let t = adds_with left after runs more from (inl n) w a in (t.walked, t.gone, λ e. t.taken)
 
   -- what holds once the arcs before number i are begun
@@ -373,12 +373,12 @@ module _ (marks : List Bool) (partner : ArcRef → Option ArcRef) (paired : AreP
     pub walked : AreWalked marks partner left runs
     pub gone : (b : ArcRef) → suc b.arc ≤ i → partner b ≡ None → is_left left b.arc ≡ false
 
-  pub begun_step : (i : ℕ) (left mid after : List Bool) (runs some more : List (List ArcRef)) → Begun i left runs →
-      AddsBegun partner left runs (record { arc = i; reversed = false }) mid some → AddsBegun partner mid some (record { arc = i; reversed = true }) after more →
+  pub started_step : (i : ℕ) (left mid after : List Bool) (runs some more : List (List ArcRef)) → Begun i left runs →
+      AddsStarted partner left runs (record { arc = i; reversed = false }) mid some → AddsStarted partner mid some (record { arc = i; reversed = true }) after more →
       Begun (i + 1) after more
-  begun_step i left mid after runs some more b f s =
-      let one = begun_with left mid runs some (record { arc = i; reversed = false }) b.walked f in
-      let two = begun_with mid after some more (record { arc = i; reversed = true }) one.0 s in
+  started_step i left mid after runs some more b f s =
+      let one = started_with left mid runs some (record { arc = i; reversed = false }) b.walked f in
+      let two = started_with mid after some more (record { arc = i; reversed = true }) one.0 s in
       record {
         walked = two.0;
         gone = λ r h n. elim (number_dec r.arc i) [
@@ -398,15 +398,15 @@ module _ (marks : List Bool) (partner : ArcRef → Option ArcRef) (paired : AreP
           let same : r ≡ record { arc = i; reversed = true } = λ j. record { arc = e j; reversed = w j } in
           subst (λ k. is_left after k ≡ false) (sym e) (two.2 (ap partner (sym same) ∙ n))
 
-  pub begun_start : (left : List Bool) (runs : List (List ArcRef)) → AreWalked marks partner left runs → Begun 0 left runs
-  begun_start left runs w = record { walked = w; gone = λ b h n. absurd (omega (arith, h)) }
+  pub started_start : (left : List Bool) (runs : List (List ArcRef)) → AreWalked marks partner left runs → Begun 0 left runs
+  started_start left runs w = record { walked = w; gone = λ b h n. absurd (omega (arith, h)) }
 
   -- one arc more may be begun
   pub single_step : (left after : List Bool) (runs more : List (List ArcRef)) (from : ArcRef) → AreWalked marks partner left runs →
       AddsSingle partner left runs from after more → AreWalked marks partner after more
   single_step left after runs more from w (inl (why, e, f)) =
       subst (λ v. AreWalked marks partner v more) (sym e) (subst (AreWalked marks partner left) (sym f) w)
-  single_step left after runs more from w (inr f) = (begun_with left after runs more from w f).0
+  single_step left after runs more from w (inr f) = (started_with left after runs more from w f).0
 
   -- what holds once the arcs before number i are walked
   pub record Rounded (i : ℕ) (left : List Bool) (runs : List (List ArcRef)) : Type 0 where
@@ -419,8 +419,8 @@ module _ (marks : List Bool) (partner : ArcRef → Option ArcRef) (paired : AreP
   within_marks (b ∷ marks) zero e = omega arith
   within_marks (b ∷ marks) (suc k) e = let h = within_marks marks k e in omega (arith, h)
 
-  pub all_begun : (i : ℕ) (left : List Bool) (runs : List (List ArcRef)) → length marks ≤ i → Begun i left runs → AreWalked marks partner left runs × EndsGone marks partner left
-  all_begun i left runs n b = (b.walked, λ r m e. let h = within_marks marks r.arc m in b.gone r (omega (arith, h, n)) e)
+  pub all_started : (i : ℕ) (left : List Bool) (runs : List (List ArcRef)) → length marks ≤ i → Begun i left runs → AreWalked marks partner left runs × EndsGone marks partner left
+  all_started i left runs n b = (b.walked, λ r m e. let h = within_marks marks r.arc m in b.gone r (omega (arith, h, n)) e)
 
   pub rounded_start : (left : List Bool) (runs : List (List ArcRef)) → AreWalked marks partner left runs → EndsGone marks partner left → Rounded 0 left runs
   rounded_start left runs w e = record { walked = w; ends = e; gone = λ k h. absurd (omega (arith, h)) }
@@ -446,13 +446,13 @@ module _ (marks : List Bool) (partner : ArcRef → Option ArcRef) (paired : AreP
   }
 
 -- all marked arcs, walked in three rounds
-pub runs_told : (marks : List Bool) (partner : ArcRef → Option ArcRef) (first second third : List Bool) (none single ends all : List (List ArcRef)) →
+pub runs_means : (marks : List Bool) (partner : ArcRef → Option ArcRef) (first second third : List Bool) (none single ends all : List (List ArcRef)) →
     first ≡ marks → none ≡ [] →
     (ArePaired marks partner → AreWalked marks partner first none → AreWalked marks partner second single) →
     (ArePaired marks partner → AreWalked marks partner second single → AreWalked marks partner third ends × EndsGone marks partner third) →
     (ArePaired marks partner → AreWalked marks partner third ends → EndsGone marks partner third → AreRuns marks partner all) →
     ArePaired marks partner → AreRuns marks partner all
-runs_told marks partner first second third none single ends all e n f g h p =
+runs_means marks partner first second third none single ends all e n f g h p =
     let start : AreWalked marks partner first none =
     subst (λ w. AreWalked marks partner w none) (sym e) (subst (AreWalked marks partner marks) (sym n) (walked_none marks partner p)) in
     let t = g p (f p start) in

@@ -9,8 +9,8 @@ abbrev pub value_at : {T : Type 0} → List (Option T) → ℕ → Option T
 value_at l k = get_or l k None
 
 -- what is noted of a used arc
-abbrev pub noted_of : {T : Type 0} → ArcUseMap T → ArcRef → Option T
-noted_of b q = cond q.reversed (value_at b.against.items q.arc) (value_at b.ahead.items q.arc)
+abbrev pub recorded_of : {T : Type 0} → ArcUseMap T → ArcRef → Option T
+recorded_of b q = cond q.reversed (value_at b.against.items q.arc) (value_at b.ahead.items q.arc)
 
 -- whether both are used in one direction
 abbrev pub same_way : Bool → Bool → Bool
@@ -18,5 +18,5 @@ same_way true b = b
 same_way false b = not b
 
 -- the same, and this noted of a
-abbrev pub with_noted : {T : Type 0} → ArcRef → T → (ArcRef → Option T) → ArcRef → Option T
-with_noted a v s q = cond (same_way a.reversed q.reversed) (cond (is_eq (nat_cmp a.arc q.arc)) (Some v) (s q)) (s q)
+abbrev pub with_recorded : {T : Type 0} → ArcRef → T → (ArcRef → Option T) → ArcRef → Option T
+with_recorded a v s q = cond (same_way a.reversed q.reversed) (cond (is_eq (nat_cmp a.arc q.arc)) (Some v) (s q)) (s q)

@@ -28,8 +28,8 @@ run_along arcs [] = []
 run_along arcs (a ∷ more) = on_along arcs (positions_along arcs a) more
 
 -- a list begun at a place
-abbrev pub begun_at : {A : Type 0} → ℕ → List A → List A
-begun_at i l = drop i l ++ take i l
+abbrev pub started_at : {A : Type 0} → ℕ → List A → List A
+started_at i l = drop i l ++ take i l
 
 -- the place of the first least vertex, where the list goes on at place i
 abbrev pub least_vertex_from : ℕ → Pos → ℕ → List Pos → ℕ
@@ -44,7 +44,7 @@ least_vertex (p ∷ l) = least_vertex_from 0 p 1 l
 
 -- a closed list, read from its least vertex
 abbrev pub from_least : List Pos → List Pos
-from_least l = closed (begun_at (least_vertex (without_last l)) (without_last l))
+from_least l = closed (started_at (least_vertex (without_last l)) (without_last l))
 
 abbrev pub is_there : Option ArcRef → Bool
 is_there None = false

@@ -18,7 +18,7 @@ OnePieces =
     (slice_get r.pieces i ≡ Some used) ↔ ArePiecesOfArc position_cmp (JunctionOf g) (JunctionOf u) old.arcs c used
 
 -- arc k, which is d, is in one of these lists, at one place of it, and all its segments are those of g
-pub record StandsOnce (g : Geometry Pos) (pieces : List (List ArcRef)) (k : ℕ) (d : List Pos) : Type 0 where
+pub record OccursOnce (g : Geometry Pos) (pieces : List (List ArcRef)) (k : ℕ) (d : List Pos) : Type 0 where
   pub number : ℕ
   pub there : Uses k (pieces_at pieces number)
   pub once : UsesOnce (pieces_at pieces number)
@@ -26,13 +26,13 @@ pub record StandsOnce (g : Geometry Pos) (pieces : List (List ArcRef)) (k : ℕ)
   pub whole : (v w : Pos) → Beside v w d → SegmentOf g v w
 
 -- an old arc that has a segment of what is left is at one place of one list, and all its segments stay
-abbrev pub KeptStandOnce : Type 0
-KeptStandOnce =
+abbrev pub KeptArcsOccurOnce : Type 0
+KeptArcsOccurOnce =
     (g u : Geometry Pos) → IsSound u → IsPartOf g u → (old : Arcs) (r : HealedParts) → IsHealedOf g u old r →
-    (k : ℕ) (d : List Pos) (v w : Pos) → slice_get old.arcs k ≡ Some d → Beside v w d → SegmentOf g v w → StandsOnce g r.pieces k d
+    (k : ℕ) (d : List Pos) (v w : Pos) → slice_get old.arcs k ≡ Some d → Beside v w d → SegmentOf g v w → OccursOnce g r.pieces k d
 
 -- one that has none is in no list
-abbrev pub OthersStandNowhere : Type 0
-OthersStandNowhere =
+abbrev pub OthersOccurNowhere : Type 0
+OthersOccurNowhere =
     (g u : Geometry Pos) → IsSound u → IsPartOf g u → (old : Arcs) (r : HealedParts) → IsHealedOf g u old r →
     (k : ℕ) (d : List Pos) → slice_get old.arcs k ≡ Some d → ((v w : Pos) → Beside v w d → ¬ SegmentOf g v w) → (i : ℕ) → ¬ Uses k (pieces_at r.pieces i)

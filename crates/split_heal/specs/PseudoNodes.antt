@@ -7,7 +7,7 @@ use Rattle.grid.specs.declared.pos.Pos.{Pos}
 use Rattle.lines.specs.Turned.{position_cmp}
 use Rattle.arcs.specs.Among.{among}
 use Rattle.arcs.specs.Ends.{ends_along, first_end}
-use Rattle.split_heal.specs.ArcUseMap.{noted_of, with_noted}
+use Rattle.split_heal.specs.ArcUseMap.{recorded_of, with_recorded}
 use Rattle.split_heal.specs.declared.pseudo_nodes.ArcEnd.{ArcEnd}
 use Rattle.split_heal.specs.declared.pseudo_nodes.PseudoNodes.{PseudoNodes}
 
@@ -52,7 +52,7 @@ AreGrouped (e ∷ l) = ((d : ArcEnd) → Has d l → (is_gt (position_cmp e.vert
 
 -- the same, and each of two used arcs noted of the other
 abbrev pub paired : ArcRef → ArcRef → (ArcRef → Option ArcRef) → ArcRef → Option ArcRef
-paired a b f = with_noted b a (with_noted a b f)
+paired a b f = with_recorded b a (with_recorded a b f)
 
 -- the same, and what is noted where an end and these others are all that meet
 abbrev pub with_pair : List Pos → ArcEnd → List ArcEnd → (ArcRef → Option ArcRef) → ArcRef → Option ArcRef
@@ -96,4 +96,4 @@ IsVerdict stop H partner a = IsStopped stop H partner a ⊎ ((b : ArcRef) × Are
 
 -- the one other used arc that begins where a used arc begins, if it goes on there
 abbrev pub partner_in : PseudoNodes → ArcRef → Option ArcRef
-partner_in m a = noted_of m.partners a
+partner_in m a = recorded_of m.partners a

@@ -3,21 +3,21 @@ use Rattle.std.specs.Prelude.{◌≡◌, ℕ, ◌+◌, true, false, cond, List, 
 use Rattle.std.specs.Option.{option_map}
 use Rattle.theory.specs.ArcNumbers.{ArcRef, backwards}
 use Rattle.theory.specs.Healing.{Starts, is_start}
-use Rattle.split_heal.specs.ArcUseMap.{noted_of, with_noted}
+use Rattle.split_heal.specs.ArcUseMap.{recorded_of, with_recorded}
 use Rattle.split_heal.specs.declared.start_table.ArcStart.{ArcStart}
 use Rattle.split_heal.specs.declared.start_table.ArcStartTable.{ArcStartTable}
 
 -- the used new arc, and how many old ones it takes behind its first
-abbrev pub noted_start : ArcStart → ArcRef × ℕ
-noted_start s = (record { arc = s.arc; reversed = s.reversed }, s.others)
+abbrev pub recorded_start : ArcStart → ArcRef × ℕ
+recorded_start s = (record { arc = s.arc; reversed = s.reversed }, s.others)
 
 -- what is noted of a used old arc
 abbrev pub starts_in : ArcStartTable → Starts
-starts_in t q = option_map noted_start (noted_of t.starts q)
+starts_in t q = option_map recorded_start (recorded_of t.starts q)
 
 -- the same, and this noted of a
 abbrev pub with_start : ArcRef → ArcRef × ℕ → Starts → Starts
-with_start = with_noted
+with_start = with_recorded
 
 -- the same, and b noted at the first of its pieces
 abbrev pub with_head : ArcRef → List ArcRef → Starts → Starts
@@ -38,8 +38,8 @@ abbrev pub starts_by : List (List ArcRef) → Starts
 starts_by pieces = with_arcs 0 no_starts pieces
 
 -- the table notes these
-abbrev pub AreNotedIn : ArcStartTable → List (List ArcRef) → Type 0
-AreNotedIn t pieces = (q : ArcRef) → starts_in t q ≡ starts_by pieces q
+abbrev pub AreRecordedIn : ArcStartTable → List (List ArcRef) → Type 0
+AreRecordedIn t pieces = (q : ArcRef) → starts_in t q ≡ starts_by pieces q
 
 -- the place of the first used old arc that begins a new one; that behind the last where none does
 abbrev pub first_place : Starts → List ArcRef → ℕ

@@ -42,15 +42,15 @@ Adds partner left runs a after more =
     ⊎ ((is_left left a.arc ≡ true) × (run : List ArcRef) × Walk partner (without left a.arc) a run after × (more ≡ runs ++ (run ∷ [])))
 
 -- the same, where it is left and no arc goes on to it; else nothing changes
-abbrev pub AddsBegun : (ArcRef → Option ArcRef) → List Bool → List (List ArcRef) → ArcRef → List Bool → List (List ArcRef) → Type 0
-AddsBegun partner left runs a after more =
+abbrev pub AddsStarted : (ArcRef → Option ArcRef) → List Bool → List (List ArcRef) → ArcRef → List Bool → List (List ArcRef) → Type 0
+AddsStarted partner left runs a after more =
     (((is_left left a.arc ≡ false) ⊎ ((b : ArcRef) × (partner a ≡ Some b))) × (after ≡ left) × (more ≡ runs))
     ⊎ ((partner a ≡ None) × Adds partner left runs a after more)
 
 -- the same, where none goes on from its other end either; else nothing changes
 abbrev pub AddsSingle : (ArcRef → Option ArcRef) → List Bool → List (List ArcRef) → ArcRef → List Bool → List (List ArcRef) → Type 0
 AddsSingle partner left runs a after more =
-    (((b : ArcRef) × (partner (flipped a) ≡ Some b)) × (after ≡ left) × (more ≡ runs)) ⊎ AddsBegun partner left runs a after more
+    (((b : ArcRef) × (partner (flipped a) ≡ Some b)) × (after ≡ left) × (more ≡ runs)) ⊎ AddsStarted partner left runs a after more
 
 -- each goes on to the next
 abbrev pub Linked : (ArcRef → Option ArcRef) → ArcRef → List ArcRef → Type 0

@@ -1,5 +1,5 @@
 //! What is noted of used arcs, by the numbers of the arcs.
-ghost use Rattle.split_heal.specs.ArcUseMap.{value_at, noted_of, with_noted};
+ghost use Rattle.split_heal.specs.ArcUseMap.{value_at, recorded_of, with_recorded};
 ghost use Rattle.std.specs.Ordering.{is_eq, nat_cmp};
 ghost use Rattle.std.specs.Prelude.{◌≡◌, ◌<◌, ℕ, IfOk, OnOk, None, Some, cond, length};
 ghost use Rattle.theory.specs.ArcNumbers as numbers;
@@ -41,14 +41,14 @@ fn put_at<T: Copy>(slots: &mut Vec<Option<T>>, place: usize, value: T) -> Result
 fn value_at<T: Copy>(slots: &[Option<T>], place: usize) -> Option<T>
     ensures { result ≡ value_at slots.now place }
 {
-    let noted = slots.get(place)?;
-    *noted
+    let recorded = slots.get(place)?;
+    *recorded
 }
 
 impl<T: Copy> ArcUseMap<T> {
     /// Nothing noted, with room for so many arcs.
     pub(crate) fn with_capacity(alloc: Global, count: usize) -> Result<ArcUseMap<T>, AllocError>
-        ensures { IfOk result (λ b. (q : numbers.ArcRef) → noted_of b q ≡ None) }
+        ensures { IfOk result (λ b. (q : numbers.ArcRef) → recorded_of b q ≡ None) }
     {
         Ok(ArcUseMap {
             ahead: Vec::with_capacity(alloc, count)?,
@@ -58,7 +58,7 @@ impl<T: Copy> ArcUseMap<T> {
 
     /// Notes a value of a used arc.
     pub(crate) fn set(&mut self, used: ArcRef, value: T) -> Result<(), AllocError>
-        ensures { OnOk result ((q : numbers.ArcRef) → noted_of self.new q ≡ with_noted used value (noted_of self.old) q) }
+        ensures { OnOk result ((q : numbers.ArcRef) → recorded_of self.new q ≡ with_recorded used value (recorded_of self.old) q) }
     {
         if used.reversed {
             put_at(&mut self.against, used.arc, value)
@@ -69,7 +69,7 @@ impl<T: Copy> ArcUseMap<T> {
 
     /// What is noted of a used arc.
     pub(crate) fn get(&self, used: ArcRef) -> Option<T>
-        ensures { result ≡ noted_of self.now used }
+        ensures { result ≡ recorded_of self.now used }
     {
         if used.reversed {
             value_at(&self.against, used.arc)

@@ -49,7 +49,7 @@ fn chain_of(alloc: Global, arcs: &ArcTable, run: &[ArcRef]) -> Result<Vec<Pos>, 
 }
 
 /// The place of the least vertex of a ring.
-fn place_of_least(ring: &[Pos]) -> usize
+fn index_of_least(ring: &[Pos]) -> usize
     ensures { result ≡ least_vertex ring.now }
 {
     ring.iter().position_min().unwrap_or(0)
@@ -61,7 +61,7 @@ fn read_from_least(chain: Vec<Pos>) -> Result<Vec<Pos>, AllocError>
 {
     let mut ring = chain;
     ring.pop();
-    let place = place_of_least(&ring);
+    let place = index_of_least(&ring);
     ring.rotate_left(place);
     if let Some(first) = ring.first().copied() {
         ring.push(first)?;

@@ -29,13 +29,13 @@ pub struct HealedArcs {
 
 impl Model for HealedArcs {
     ghost use Rattle.split_heal.specs.HealedParts.{HealedParts};
-    ghost use Rattle.split_heal.specs.Starts.{AreNotedIn};
+    ghost use Rattle.split_heal.specs.Starts.{AreRecordedIn};
 
     ghost Value = { HealedParts };
 
     ghost view = { λ a. record { arcs = a.arcs; pieces = a.pieces.items } };
 
-    ghost invariant = { λ a. AreNotedIn a.starts a.pieces.items };
+    ghost invariant = { λ a. AreRecordedIn a.starts a.pieces.items };
 }
 
 impl HealedArcs {

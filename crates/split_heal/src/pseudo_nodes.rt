@@ -2,7 +2,7 @@
 ghost use Rattle.grid.specs.declared.pos.Pos.{Pos};
 ghost use Rattle.lines.specs.ByVertex.{count_at};
 ghost use Rattle.lines.specs.Pairs.{position_eq};
-ghost use Rattle.split_heal.specs.ArcUseMap.{noted_of};
+ghost use Rattle.split_heal.specs.ArcUseMap.{recorded_of};
 ghost use Rattle.split_heal.specs.PseudoNodes.{AreGrouped, Begins, IsVerdict, all_ends, begin_at, end_at, end_if, ends_from, paired, partner_in, used_at, vertex_of, with_pair};
 ghost use Rattle.std.specs.Prelude.{◌≡◌, ◌≤◌, ◌++◌, IfOk, OnOk, length};
 ghost use Rattle.theory.specs.ArcNumbers as numbers;
@@ -105,7 +105,7 @@ fn count_of(ends: &[ArcEnd], vertex: Pos) -> usize
 
 /// Notes of each of two used arcs that the other goes on from it.
 fn link(partners: &mut ArcUseMap<ArcRef>, first: ArcRef, second: ArcRef) -> Result<(), AllocError>
-    ensures { OnOk result ((q : numbers.ArcRef) → noted_of partners.new q ≡ paired first second (noted_of partners.old) q) }
+    ensures { OnOk result ((q : numbers.ArcRef) → recorded_of partners.new q ≡ paired first second (recorded_of partners.old) q) }
 {
     partners.set(first, second)?;
     partners.set(second, first)
@@ -118,7 +118,7 @@ fn link_where_two_meet(
     first: &ArcEnd,
     others: &[ArcEnd],
 ) -> Result<(), AllocError>
-    ensures { OnOk result ((q : numbers.ArcRef) → noted_of partners.new q ≡ with_pair stops.now first.now others.now (noted_of partners.old) q) }
+    ensures { OnOk result ((q : numbers.ArcRef) → recorded_of partners.new q ≡ with_pair stops.now first.now others.now (recorded_of partners.old) q) }
 {
     let Some((second, more)) = others.split_first() else {
         return Ok(());
@@ -139,7 +139,7 @@ fn partners_of(
     stops: &VisitIndex,
     count: usize,
 ) -> Result<ArcUseMap<ArcRef>, AllocError>
-    ensures { IfOk result (λ p. AreGrouped ends.now → (v : Pos) (a : numbers.ArcRef) → Has (end_at v a) ends.now → IsVerdict (Has v stops.now) (λ b. Has (end_at v b) ends.now) (noted_of p) a) }
+    ensures { IfOk result (λ p. AreGrouped ends.now → (v : Pos) (a : numbers.ArcRef) → Has (end_at v a) ends.now → IsVerdict (Has v stops.now) (λ b. Has (end_at v b) ends.now) (recorded_of p) a) }
 {
     let mut partners = ArcUseMap::with_capacity(alloc, count)?;
     let mut left = ends;

@@ -46,7 +46,7 @@ impl Model for RecutAll {
 }
 
 /// The place in a list of all that is at a place of a part of it, where these are the parts' bounds.
-fn place_between(bounds: &[usize], part: usize, number: usize) -> Option<usize>
+fn index_between(bounds: &[usize], part: usize, number: usize) -> Option<usize>
     ensures { (lists : List (List Used)) → slice_get (list_at part (parts_between bounds.now lists)) number ≡ at_place lists result }
 {
     match bounds.get(part) {
@@ -83,7 +83,7 @@ impl RecutAll {
     pub fn pieces(&self, table: usize, number: usize) -> Option<&[ArcRef]>
         ensures { option_map (λ r. r.now) result ≡ slice_get (of_table table self.now) number }
     {
-        match place_between(&self.begins, table, number) {
+        match index_between(&self.begins, table, number) {
             Some(place) => self.lists.get(place),
             None => None,
         }

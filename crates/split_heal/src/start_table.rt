@@ -1,5 +1,5 @@
 //! Which new arc begins with which old one.
-ghost use Rattle.split_heal.specs.Starts.{AreNotedIn, noted_start, starts_in, with_head, with_start};
+ghost use Rattle.split_heal.specs.Starts.{AreRecordedIn, recorded_start, starts_in, with_head, with_start};
 ghost use Rattle.std.specs.Option.{option_map};
 ghost use Rattle.std.specs.Prelude.{◌≡◌, IfOk, OnOk, true, false};
 ghost use Rattle.theory.specs.ArcNumbers as numbers;
@@ -26,7 +26,7 @@ pub(crate) struct ArcStartTable {
 
 impl ArcStartTable {
     fn set(&mut self, used: ArcRef, start: ArcStart) -> Result<(), AllocError>
-        ensures { OnOk result ((q : numbers.ArcRef) → starts_in self.new q ≡ with_start used (noted_start start) (starts_in self.old) q) }
+        ensures { OnOk result ((q : numbers.ArcRef) → starts_in self.new q ≡ with_start used (recorded_start start) (starts_in self.old) q) }
     {
         self.starts.set(used, start)
     }
@@ -67,7 +67,7 @@ impl ArcStartTable {
         pieces: &[ArcRun],
         count: usize,
     ) -> Result<ArcStartTable, AllocError>
-        ensures { IfOk result (λ t. AreNotedIn t pieces.now) }
+        ensures { IfOk result (λ t. AreRecordedIn t pieces.now) }
     {
         let mut table = ArcStartTable {
             starts: ArcUseMap::with_capacity(alloc, count)?,
@@ -81,7 +81,7 @@ impl ArcStartTable {
 
     /// The used new arc that begins with a used old one.
     pub(crate) fn get(&self, used: &ArcRef) -> Option<ArcStart>
-        ensures { option_map noted_start result ≡ starts_in self.now used.now }
+        ensures { option_map recorded_start result ≡ starts_in self.now used.now }
     {
         self.starts.get(*used)
     }

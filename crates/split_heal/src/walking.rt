@@ -1,6 +1,6 @@
 //! Walks along arcs that go on from one another.
 ghost use Rattle.split_heal.specs.PseudoNodes.{partner_in};
-ghost use Rattle.split_heal.specs.Walks.{Adds, AddsBegun, AddsSingle, ArePaired, AreRuns, AreWalked, EndsGone, Goes, GoesOn, Walk, count_left, some_one};
+ghost use Rattle.split_heal.specs.Walks.{Adds, AddsStarted, AddsSingle, ArePaired, AreRuns, AreWalked, EndsGone, Goes, GoesOn, Walk, count_left, some_one};
 ghost use Rattle.std.specs.Prelude.{◌≤◌, ◌+◌, IfOk, OnOk, List, Bool};
 ghost use Rattle.theory.specs.ArcNumbers as numbers;
 
@@ -71,13 +71,13 @@ impl Walker {
     }
 
     /// Walks from a used arc that is left and has no arc before it.
-    fn add_begun(
+    fn add_start(
         &mut self,
         alloc: Global,
         meeting: &PseudoNodes,
         from: ArcRef,
     ) -> Result<(), AllocError>
-        ensures { OnOk result (AddsBegun (partner_in meeting.now) self.old.left self.old.runs.items from self.new.left self.new.runs.items) }
+        ensures { OnOk result (AddsStarted (partner_in meeting.now) self.old.left self.old.runs.items from self.new.left self.new.runs.items) }
     {
         if !self.left.is_set(from.arc) || meeting.partner(from).is_some() {
             return Ok(());
@@ -97,7 +97,7 @@ impl Walker {
         if meeting.partner(from.flip()).is_some() {
             return Ok(());
         }
-        self.add_begun(alloc, meeting, from)
+        self.add_start(alloc, meeting, from)
     }
 
     /// Adds the runs of one arc each from end to end. They come first, so that a sort of what the runs are
@@ -138,8 +138,8 @@ impl Walker {
                 arc,
                 reversed: true,
             };
-            self.add_begun(alloc, meeting, ahead)?;
-            self.add_begun(alloc, meeting, against)?;
+            self.add_start(alloc, meeting, ahead)?;
+            self.add_start(alloc, meeting, against)?;
         }
         Ok(())
     }

@@ -213,5 +213,5 @@ module _ {V : Type 0} (cmp : V → V → Ordering) (o : IsTotalOrder cmp) (same 
     inner_free = λ k d e. inner_free d (chain_of k d e);
     loop_free = λ k d e free v h j. free v h (grow v j);
     stands = λ k d kept e j. stands k d kept e (inl j);
-    loop_stands = λ k d kept e free. stands k d kept e (inr free);
+    loop_holds = λ k d kept e free. stands k d kept e (inr free);
   }

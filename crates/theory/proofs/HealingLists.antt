@@ -143,7 +143,7 @@ module _ (starts : Starts) where
     healed_replaced [] f = refl
     healed_replaced (b ∷ us) f =
         let h = used_head b.reversed (pieces_at pieces b.arc) f.0 in
-        let n : starts h.0 ≡ Some (b, length h.1) = are.noted h.0 b h.1 h.2 in
+        let n : starts h.0 ≡ Some (b, length h.1) = are.recorded h.0 b h.1 h.2 in
         ap (λ w. healed_list starts zero (w ++ replaced pieces us)) h.2
         ∙ ap (λ w. written w ++ healed_list starts (skipped w) (h.1 ++ replaced pieces us)) n
         ∙ ap (λ w. b ∷ w) (skip_all h.1 (replaced pieces us) ∙ healed_replaced us f.1)
@@ -280,7 +280,7 @@ module _ {V : Type 0} (cmp : V → V → Ordering) (o : IsTotalOrder cmp) (same 
         first [] x l h f = absurd cc
         first (b ∷ new) x l h f =
             let t = used_head b.reversed (pieces_at pieces b.arc) f.0 in
-            (t.0, (b, length t.1), Has-append_left t.0 (pieces_of_used pieces b) (replaced pieces new) (subst (λ w. Has t.0 w) (sym t.2) (inl refl)), are.noted t.0 b t.1 t.2)
+            (t.0, (b, length t.1), Has-append_left t.0 (pieces_of_used pieces b) (replaced pieces new) (subst (λ w. Has t.0 w) (sym t.2) (inl refl)), are.recorded t.0 b t.1 t.2)
 
     -- the geometry of a feature that is left
     pub new_form : (f : Shape V) (h : Body V) → ((l : List V) → Has l (lines_in f) → IsLineOf g l) → ((r : List V) → Has r (rings_in f) → IsRingOf g r) →

@@ -32,19 +32,19 @@ begins_so a (x ∷ ps) = elim (same_ref x a) [
 ]
 
 -- whether a used new arc begins with a
-begun_by : (pieces : List (List ArcRef)) (a : ArcRef) →
+started_by : (pieces : List (List ArcRef)) (a : ArcRef) →
     ((b : ArcRef) × (more : List ArcRef) × (pieces_of_used pieces b ≡ a ∷ more)) ⊎ ((b : ArcRef) (more : List ArcRef) → ¬ (pieces_of_used pieces b ≡ a ∷ more))
-begun_by [] a = inr (λ b more. none b.reversed more)
+started_by [] a = inr (λ b more. none b.reversed more)
   where
     none : (r : Bool) (more : List ArcRef) → ¬ (cond r (backwards []) [] ≡ a ∷ more)
     none true more e = absurd cc
     none false more e = absurd cc
-begun_by (p ∷ pieces) a =
+started_by (p ∷ pieces) a =
     elim (begins_so a p) [
       | inl k ↦ inl (record { arc = zero; reversed = false }, k.0, k.1)
       | inr n ↦ elim (begins_so a (backwards p)) [
         | inl k ↦ inl (record { arc = zero; reversed = true }, k.0, k.1)
-        | inr m ↦ elim (begun_by pieces a) [
+        | inr m ↦ elim (started_by pieces a) [
           | inl t ↦ inl (record { arc = suc t.0.arc; reversed = t.0.reversed }, t.1, t.2)
           | inr l ↦ inr (λ b more. none n m l b.arc b.reversed more)
         ]
@@ -58,11 +58,11 @@ begun_by (p ∷ pieces) a =
     none n m l zero true more e = m more e
     none n m l (suc k) r more e = l (record { arc = k; reversed = r }) more e
 
-abbrev noted_by : (a : ArcRef) (pieces : List (List ArcRef)) →
+abbrev recorded_by : (a : ArcRef) (pieces : List (List ArcRef)) →
     ((b : ArcRef) × (more : List ArcRef) × (pieces_of_used pieces b ≡ a ∷ more)) ⊎ ((b : ArcRef) (more : List ArcRef) → ¬ (pieces_of_used pieces b ≡ a ∷ more)) →
     Option (ArcRef × ℕ)
-noted_by a pieces (inl t) = Some (t.0, length t.1)
-noted_by a pieces (inr n) = None
+recorded_by a pieces (inl t) = Some (t.0, length t.1)
+recorded_by a pieces (inr n) = None
 
 abbrev pair_of : ArcRef × ℕ → Option (ArcRef × ℕ) → ArcRef × ℕ
 pair_of d None = d
@@ -75,21 +75,21 @@ module _ {V : Type 0} (cmp : V → V → Ordering) (o : IsTotalOrder cmp) (same 
   -- a table of what begins where
   pub starts_exist : (starts : Starts) × AreStarts pieces starts
   starts_exist = (
-    (λ a. noted_by a pieces (begun_by pieces a)),
-    record { noted = λ a b more e. noted a b more e (begun_by pieces a); only = λ a b n e. only a b n (begun_by pieces a) e },
+    (λ a. recorded_by a pieces (started_by pieces a)),
+    record { recorded = λ a b more e. recorded a b more e (started_by pieces a); only = λ a b n e. only a b n (started_by pieces a) e },
   )
     where
-      noted : (a b : ArcRef) (more : List ArcRef) → pieces_of_used pieces b ≡ a ∷ more →
+      recorded : (a b : ArcRef) (more : List ArcRef) → pieces_of_used pieces b ≡ a ∷ more →
           (t : ((b : ArcRef) × (more : List ArcRef) × (pieces_of_used pieces b ≡ a ∷ more)) ⊎ ((b : ArcRef) (more : List ArcRef) → ¬ (pieces_of_used pieces b ≡ a ∷ more))) →
-          noted_by a pieces t ≡ Some (b, length more)
-      noted a b more e (inl t) =
+          recorded_by a pieces t ≡ Some (b, length more)
+      recorded a b more e (inl t) =
           let k = starts_once cmp o same dec u su table all g part arcs pieces ref t.0 b a t.1 more t.2 e in
           λ i. Some (k.0 i, length (k.1 i))
-      noted a b more e (inr n) = absurd (n b more e)
+      recorded a b more e (inr n) = absurd (n b more e)
 
       only : (a b : ArcRef) (n : ℕ) →
           (t : ((b : ArcRef) × (more : List ArcRef) × (pieces_of_used pieces b ≡ a ∷ more)) ⊎ ((b : ArcRef) (more : List ArcRef) → ¬ (pieces_of_used pieces b ≡ a ∷ more))) →
-          noted_by a pieces t ≡ Some (b, n) → (more : List ArcRef) × (pieces_of_used pieces b ≡ a ∷ more) × (length more ≡ n)
+          recorded_by a pieces t ≡ Some (b, n) → (more : List ArcRef) × (pieces_of_used pieces b ≡ a ∷ more) × (length more ≡ n)
       only a b n (inl t) e =
           let f : t.0 ≡ b = ap (λ w. (pair_of (b, n) w).0) e in
           let h : length t.1 ≡ n = ap (λ w. (pair_of (b, n) w).1) e in

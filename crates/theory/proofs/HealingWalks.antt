@@ -5,7 +5,7 @@ use Rattle.std.specs.FinMap.{IsAntisymmetric}
 use Rattle.std.specs.declared.cmp.Ordering.{Ordering}
 use Rattle.theory.proofs.ArcNumbers.{along_flipped, along_used, taken_of}
 use Rattle.theory.proofs.GroupedPieces.{not_same}
-use Rattle.theory.proofs.JunctionTest.{is_told, junction_told}
+use Rattle.theory.proofs.JunctionTest.{is_answered, junction_means}
 use Rattle.theory.proofs.OneTopology.{along_chain}
 use Rattle.theory.proofs.Pieces.{two_segments_of}
 use Rattle.theory.proofs.HealingKept.{arc_from, end_segment, part_sound}
@@ -82,9 +82,9 @@ module _ {V : Type 0} (cmp : V → V → Ordering) (o : IsTotalOrder cmp) (same 
     where
       by_test : (t : Bool) → is_junction cmp u v ≡ t → (p : V) (s : List V) → along table a ≡ Some (v ∷ (p ∷ s)) → (q : V) → ¬ (p ≡ q) → SegmentOf g v q →
           ((c : V) → SegmentOf g v c → (c ≡ p) ⊎ (c ≡ q)) → EndBeside Kept table v q
-      by_test true e p s al q n sq only = arc_from cmp o same dec u su table all g part v q (junction_told cmp o same u v e) sq
+      by_test true e p s al q n sq only = arc_from cmp o same dec u su table all g part v q (junction_means cmp o same u v e) sq
       by_test false e p s al q n sq only =
-          let z = first v (flipped a) (comes_back v p a s al (λ j. absurd (let f : true ≡ false = sym (is_told cmp o same u v j) ∙ e in cc))) in
+          let z = first v (flipped a) (comes_back v p a s al (λ j. absurd (let f : true ≡ false = sym (is_answered cmp o same u v j) ∙ e in cc))) in
           elim (only z.0 (end_segment cmp o same dec u su table all g part v z.0 (flipped a, ka, z.1, z.2))) [
             | inl f ↦
                 let k : flipped a ≡ a = one_start cmp o same dec u su table all (flipped a) a v p z.1 s (subst (λ w. along table (flipped a) ≡ Some (v ∷ (w ∷ z.1))) f z.2) al in

@@ -4,7 +4,7 @@ use Rattle.std.specs.Cmp.{IsTotalOrder}
 use Rattle.std.specs.FinMap.{IsAntisymmetric}
 use Rattle.std.specs.declared.cmp.Ordering.{Ordering}
 use Rattle.theory.proofs.Chains.{IsChain-same}
-use Rattle.theory.proofs.JunctionTest.{junction_told, is_told}
+use Rattle.theory.proofs.JunctionTest.{junction_means, is_answered}
 use Rattle.theory.proofs.Lists.{Has-append, Has-append_left, Has-append_right, Passes-before, Steps-right}
 use Rattle.theory.proofs.ListsOfLists.{Has-gathered, gathered_from, Has-joined}
 use Rattle.theory.proofs.Pieces.{SegmentOf-flip, SegmentOf-apart, two_segments_of}
@@ -103,8 +103,8 @@ module _ {V : Type 0} (cmp : V → V → Ordering) (o : IsTotalOrder cmp) (same 
   network_has = record {
     segments = λ u v. (joined_segment u v, segment_joined u v);
     stops = λ v. (
-      (λ h. junction_told cmp o same g v (keep_has (is_junction cmp g) (joined g.lines ++ joined g.rings) v h).1),
-      (λ j. has_keep (is_junction cmp g) (joined g.lines ++ joined g.rings) v (junction_there v j) (is_told cmp o same g v j)),
+      (λ h. junction_means cmp o same g v (keep_has (is_junction cmp g) (joined g.lines ++ joined g.rings) v h).1),
+      (λ j. has_keep (is_junction cmp g) (joined g.lines ++ joined g.rings) v (junction_there v j) (is_answered cmp o same g v j)),
     );
   }
 

@@ -5,7 +5,7 @@ use Rattle.std.specs.FinMap.{IsAntisymmetric}
 use Rattle.std.specs.declared.cmp.Ordering.{Ordering}
 use Rattle.theory.proofs.ArcsAsMap.{arcs_sound, arcs_alike, arcs_same, kind, turned_alike}
 use Rattle.theory.proofs.ArcsOfMap.{are_arcs}
-use Rattle.theory.proofs.JunctionTest.{some_found, some_none, junction_told, is_told}
+use Rattle.theory.proofs.JunctionTest.{some_found, some_none, junction_means, is_answered}
 use Rattle.theory.proofs.Lists.{Has-append, Has-append_left, Has-append_right, front-snoc}
 use Rattle.theory.proofs.ListsOfLists.{Has-map, map_has, Pairwise-map, Pairwise-same, get_has}
 use Rattle.theory.proofs.OneTopology.{arcs_unique}
@@ -45,20 +45,20 @@ own_union g = whole_union g g (record { lines = λ l h. h; rings = λ r h. h })
 
 module _ {V : Type 0} (cmp : V → V → Ordering) (o : IsTotalOrder cmp) (same : IsAntisymmetric cmp) (dec : (a b : V) → Dec (a ≡ b)) where
   meets : (g : Geometry V) (c : List V) → some (is_junction cmp g) c ≡ true → ¬ Free (JunctionOf g) c
-  meets g c e f = let t = some_found (is_junction cmp g) c e in f t.0 t.1 (junction_told cmp o same g t.0 t.2)
+  meets g c e f = let t = some_found (is_junction cmp g) c e in f t.0 t.1 (junction_means cmp o same g t.0 t.2)
 
   is_free : (g : Geometry V) (c : List V) → some (is_junction cmp g) c ≡ false → Free (JunctionOf g) c
-  is_free g c e v h j = some_none (is_junction cmp g) c e v h (is_told cmp o same g v j)
+  is_free g c e v h j = some_none (is_junction cmp g) c e v h (is_answered cmp o same g v j)
 
-  meets_told : (g : Geometry V) (c : List V) → ¬ Free (JunctionOf g) c → some (is_junction cmp g) c ≡ true
-  meets_told g c n = go (some (is_junction cmp g) c) refl
+  meets_means : (g : Geometry V) (c : List V) → ¬ Free (JunctionOf g) c → some (is_junction cmp g) c ≡ true
+  meets_means g c n = go (some (is_junction cmp g) c) refl
     where
       go : (b : Bool) → some (is_junction cmp g) c ≡ b → b ≡ true
       go true e = refl
       go false e = absurd (n (is_free g c e))
 
-  free_told : (g : Geometry V) (c : List V) → Free (JunctionOf g) c → some (is_junction cmp g) c ≡ false
-  free_told g c f = go (some (is_junction cmp g) c) refl
+  free_means : (g : Geometry V) (c : List V) → Free (JunctionOf g) c → some (is_junction cmp g) c ≡ false
+  free_means g c f = go (some (is_junction cmp g) c) refl
     where
       go : (b : Bool) → some (is_junction cmp g) c ≡ b → b ≡ false
       go true e = absurd (meets g c e f)
@@ -70,7 +70,7 @@ module _ {V : Type 0} (cmp : V → V → Ordering) (o : IsTotalOrder cmp) (same 
     open_arc l h = let t = keep_has (some (is_junction cmp g)) arcs l h in (t.0, meets g l t.1)
 
     arc_open : (l : List V) → OpenArc g arcs l → IsLineOf (arcs_as_map cmp g arcs) l
-    arc_open l h = has_keep (some (is_junction cmp g)) arcs l h.0 (meets_told g l h.1)
+    arc_open l h = has_keep (some (is_junction cmp g)) arcs l h.0 (meets_means g l h.1)
 
     loop_arc : (r : List V) → IsRingOf (arcs_as_map cmp g arcs) r → LoopArc g arcs r
     loop_arc r h =
@@ -88,7 +88,7 @@ module _ {V : Type 0} (cmp : V → V → Ordering) (o : IsTotalOrder cmp) (same 
     arc_loop r h =
         subst (λ w. Has w (map unclosed (keep (λ c. not (some (is_junction cmp g) c)) arcs))) (unclosed-closed r)
         (Has-map unclosed (keep (λ c. not (some (is_junction cmp g) c)) arcs) (closed r)
-        (has_keep (λ c. not (some (is_junction cmp g) c)) arcs (closed r) h.0 (ap not (free_told g (closed r) h.1))))
+        (has_keep (λ c. not (some (is_junction cmp g) c)) arcs (closed r) h.0 (ap not (free_means g (closed r) h.1))))
 
     pub as_map_alone : AreArcsAsMap g g arcs arcs (arcs_as_map cmp g arcs)
     as_map_alone = record {
@@ -143,8 +143,8 @@ module _ {V : Type 0} (cmp : V → V → Ordering) (o : IsTotalOrder cmp) (same 
         go : (p : Bool) → is_junction cmp a v ≡ p → (q : Bool) → is_junction cmp u v ≡ q → p ≡ q
         go true e true f = refl
         go false e false f = refl
-        go true e false f = sym (is_told cmp o same u v (alike.junctions v (junction_told cmp o same a v e))) ∙ f
-        go false e true f = sym e ∙ is_told cmp o same a v (alike.junctions_back v (junction_told cmp o same u v f))
+        go true e false f = sym (is_answered cmp o same u v (alike.junctions v (junction_means cmp o same a v e))) ∙ f
+        go false e true f = sym e ∙ is_answered cmp o same a v (alike.junctions_back v (junction_means cmp o same u v f))
 
     tests : is_junction cmp a ≡ is_junction cmp u
     tests = λ i v. same_test v i
@@ -153,14 +153,14 @@ module _ {V : Type 0} (cmp : V → V → Ordering) (o : IsTotalOrder cmp) (same 
     of_open c h =
         ap (λ w. map (ref_of cmp w) (line_cut (is_junction cmp a) c)) same_arcs
         ∙ ap (λ w. map (ref_of cmp table) (line_cut w c)) tests
-        ∙ sym (ap (λ w. map (ref_of cmp table) (cond w (line_cut (is_junction cmp u) c) (ring_cut cmp (is_junction cmp u) (unclosed c)))) (meets_told g c h.1))
+        ∙ sym (ap (λ w. map (ref_of cmp table) (cond w (line_cut (is_junction cmp u) c) (ring_cut cmp (is_junction cmp u) (unclosed c)))) (meets_means g c h.1))
 
     of_loop : (r : List V) → LoopArc g arcs r → ring_refs cmp a r ≡ map (ref_of cmp table) (arc_cut cmp (is_junction cmp g) (is_junction cmp u) (closed r))
     of_loop r h =
         ap (λ w. map (ref_of cmp w) (ring_cut cmp (is_junction cmp a) r)) same_arcs
         ∙ ap (λ w. map (ref_of cmp table) (ring_cut cmp w r)) tests
         ∙ ap (λ w. map (ref_of cmp table) (ring_cut cmp (is_junction cmp u) w)) (sym (unclosed-closed r))
-        ∙ sym (ap (λ w. map (ref_of cmp table) (cond w (line_cut (is_junction cmp u) (closed r)) (ring_cut cmp (is_junction cmp u) (unclosed (closed r))))) (free_told g (closed r) h.1))
+        ∙ sym (ap (λ w. map (ref_of cmp table) (cond w (line_cut (is_junction cmp u) (closed r)) (ring_cut cmp (is_junction cmp u) (unclosed (closed r))))) (free_means g (closed r) h.1))
 
     -- the pieces of an arc
     arc_pieces : (c : List V) → Has c arcs →

@@ -6,7 +6,7 @@ use Rattle.theory.proofs.ArcsOfMap.{are_arcs, line_is_cut, ring_is_cut}
 use Rattle.theory.proofs.Ascending.{at_most_same, dec_by}
 use Rattle.theory.proofs.ChainLists.{stitched_unique}
 use Rattle.theory.proofs.Chains.{Chain-Trail, all_chains, not_own_reverse, one_chain}
-use Rattle.theory.proofs.JunctionTest.{junction_told, some_found}
+use Rattle.theory.proofs.JunctionTest.{junction_means, some_found}
 use Rattle.theory.proofs.Junctions.{junction_law}
 use Rattle.theory.proofs.Lists.{Has-append}
 use Rattle.theory.proofs.ListsOfLists.{Each-Has}
@@ -122,7 +122,7 @@ none_passes cmp o g r free = go (some (is_junction cmp g) r) refl
   where
     go : (b : Bool) → some (is_junction cmp g) r ≡ b → b ≡ false
     go false e = refl
-    go true e = (let t = some_found (is_junction cmp g) r e in absurd (free t.0 t.1 (junction_told cmp o.total o.same g t.0 t.2)))
+    go true e = (let t = some_found (is_junction cmp g) r e in absurd (free t.0 t.1 (junction_means cmp o.total o.same g t.0 t.2)))
 
 pub one_free_loop : {V : Type 0} → law.OneFreeLoop V
 one_free_loop {V} cmp g o s [] h free = let k : 3 ≤ 0 = (s.rings [] h).long in absurd (omega arith)

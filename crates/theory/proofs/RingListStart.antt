@@ -144,15 +144,15 @@ module _ {V : Type 0} (cmp : V → V → Ordering) (o : IsTotalOrder cmp) (same 
         let zq : z ∷ q ≡ p.4.0 = cc in
         let onward : p.1 ≡ z ∷ (q ++ p.4.1) = p.4.3 ∙ ap (λ w. w ++ p.4.1) (sym zq) in (
           (λ j. subst (JunctionOf u) (sym yl) (ends_at_junction x t.0 p.0 p.3 j)),
-          place p.0 yl (q ++ p.4.1) (p.2 ∙ ap (λ w. p.0 ++ w) onward),
+          index p.0 yl (q ++ p.4.1) (p.2 ∙ ap (λ w. p.0 ++ w) onward),
         )
       where
-        place : (k : List V) → y ≡ last_of x k → (s : List V) → l ++ (x ∷ []) ≡ k ++ (z ∷ s) →
+        index : (k : List V) → y ≡ last_of x k → (s : List V) → l ++ (x ∷ []) ≡ k ++ (z ∷ s) →
             ((y ≡ x) × (z ≡ next.0)) ⊎ ((m : List V) × IsRotation (x ∷ l) (y ∷ (z ∷ m)))
-        place [] yl s e =
+        index [] yl s e =
             let f : next.0 ∷ (next.1 ++ (x ∷ [])) ≡ z ∷ s = ap (λ w. w ++ (x ∷ [])) (sym next.2) ∙ e in
             let g : next.0 ≡ z = cc in inl (yl, sym g)
-        place (w ∷ k) yl s e =
+        index (w ∷ k) yl s e =
             let t = parted_rotation x l (w ∷ k) z s e (omega arith) in
             inr (t.0, subst (λ v. IsRotation (x ∷ l) (v ∷ (z ∷ t.0))) (sym yl) t.1)
 

@@ -60,9 +60,9 @@ module _ {V : Type 0} (cmp : V → V → Ordering) (o : IsTotalOrder cmp) (same 
   taken_chains (a ∷ us) (c ∷ cs) h = (along_chain cmp o same dec u su table all a c h.0, taken_chains us cs h.1)
 
   -- a closed list, begun at another of its vertices
-  begun : (x y : V) (l m : List V) → IsRotation (x ∷ l) (y ∷ m) →
+  started : (x y : V) (l m : List V) → IsRotation (x ∷ l) (y ∷ m) →
       (q : List V) × (s : List V) × (l ++ (x ∷ []) ≡ q ++ s) × (last_of x q ≡ y) × (m ++ (y ∷ []) ≡ s ++ q)
-  begun x y l m r = go (rotation_at (x ∷ l) y m r)
+  started x y l m r = go (rotation_at (x ∷ l) y m r)
     where
       go : (s : List V) × (t : List V) × (x ∷ l ≡ s ++ (y ∷ t)) × (m ≡ t ++ s) →
           (q : List V) × (s : List V) × (l ++ (x ∷ []) ≡ q ++ s) × (last_of x q ≡ y) × (m ++ (y ∷ []) ≡ s ++ q)
@@ -93,7 +93,7 @@ module _ {V : Type 0} (cmp : V → V → Ordering) (o : IsTotalOrder cmp) (same 
         | inl k ↦ k.has_it
         | inr k ↦ absurd (k.0 x (rotation_has (x ∷ l) r (rotation_back r (x ∷ l) ro) x (inl refl)) j)
       ]) in
-      let b = begun x y l m (rotation_trans (x ∷ l) r (y ∷ m) (rotation_back r (x ∷ l) ro) turned.rotation) in
+      let b = started x y l m (rotation_trans (x ∷ l) r (y ∷ m) (rotation_back r (x ∷ l) ro) turned.rotation) in
       let c = taken_of table x us (l ++ (x ∷ [])) h in
       let p = chains_meet (SegmentOf u) (JunctionOf u) (AtMost cmp) (SegmentOf-flip u su dec) (two_segments_of u su dec) le x c.0 b.0 b.1 (taken_chains us c.0 c.1)
       (subst (λ w. Stitched x c.0 w) b.2 c.2) (subst (JunctionOf u) (sym b.3) jy) in

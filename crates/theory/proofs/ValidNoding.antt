@@ -127,8 +127,8 @@ module _ {V : Type 0} (cmp : V → V → Ordering) (o : IsTotalOrder cmp) (same 
       n (between_once b v c b' c' (around r) (ring_distinct r (part_distinct (λ r. r) a.rings rings_once r h)) p (subst (λ w. Between b' v c' (around w)) e q))
 
   -- so they stand
-  pub apart_stand : AreValidArcs cmp arcs a
-  apart_stand = record {
+  pub apart_hold : AreValidArcs cmp arcs a
+  apart_hold = record {
     parted = st.parted;
     sorted = st.sorted;
     forward = st.forward;
@@ -215,8 +215,8 @@ module _ {V : Type 0} (cmp : V → V → Ordering) (o : IsTotalOrder cmp) (same 
   no_loop l (x ∷ q) h k e = st.free (x ∷ q) k x (inl refl) (inl (l, h, subst (λ w. EndOf x w) (sym e) (inl refl)))
 
   -- arcs that stand, each a line or a ring once, are apart
-  pub stand_apart : Distinct a.lines → Distinct a.rings → ArcsAreNoded cmp arcs a
-  stand_apart dl dr = record {
+  pub hold_apart : Distinct a.lines → Distinct a.rings → ArcsAreNoded cmp arcs a
+  hold_apart dl dr = record {
     parted = st.parted;
     sorted = st.sorted;
     forward = st.forward;

@@ -22,7 +22,7 @@ use Rattle.theory.proofs.Reversing.{Has-unreverse, IsChain-reverse, Steps-revers
 use Rattle.theory.proofs.RingListStart.{turned_used_is}
 use Rattle.theory.proofs.Rotations.{rotation_trail}
 use Rattle.theory.proofs.SegmentsOnce.{segments_once}
-use Rattle.theory.proofs.ValidNoding.{stand_apart}
+use Rattle.theory.proofs.ValidNoding.{hold_apart}
 use Rattle.theory.proofs.ValidMaps.{along_same}
 use Rattle.theory.proofs.ValidTopologies.{Pairwise-on, form_on}
 use Rattle.theory.proofs.Turning.{keep_has}
@@ -84,8 +84,8 @@ module _ {V : Type 0} (cmp : V → V → Ordering) (o : IsTotalOrder cmp) (same 
   inside [] k u v w p j = k
   inside (x ∷ r) k u v w p j = k.inner_free u v w p j
 
-  pub arcs_stand : AreValidArcs cmp arcs a
-  arcs_stand = record {
+  pub arcs_hold : AreValidArcs cmp arcs a
+  arcs_hold = record {
     parted = record {
       lines = λ l h. (open_of l h).0;
       rings = λ r h. (loop_of r h).0;
@@ -126,7 +126,7 @@ module _ {V : Type 0} (cmp : V → V → Ordering) (o : IsTotalOrder cmp) (same 
   -- they are apart
   pub arcs_apart : ArcsAreNoded cmp arcs a
   arcs_apart =
-      stand_apart cmp o same dec arcs a arcs_stand
+      hold_apart cmp o same dec arcs a arcs_hold
       (keep_distinct (some (is_junction cmp g)) arcs each_once)
       (map_distinct unclosed (keep (λ c. not (some (is_junction cmp g) c)) arcs) (keep_distinct (λ c. not (some (is_junction cmp g) c)) arcs each_once)
       (λ c d h k e. loop_unclosed c h ∙ ap closed e ∙ sym (loop_unclosed d k)))
@@ -256,11 +256,11 @@ module _ {V : Type 0} (cmp : V → V → Ordering) (o : IsTotalOrder cmp) (same 
       let r : Reads f h.0.form = elim x.2 [ inl p ↦ subst (λ w. Reads w h.0.form) (sym p) h.2.form | inr z ↦ absurd z ] in
       (y.0, y.1, h.0, h.1, (users cmp o same dec (geometry_of m) sg t.arcs is.arcs f h.0.form r (form_ring f i) k c u v e b).0 s)
 
-  pub topology_stands : IsValidTopology cmp box_of on m (arcs_as_map cmp (geometry_of m) t.arcs) t
-  topology_stands = record {
+  pub topology_holds : IsValidTopology cmp box_of on m (arcs_as_map cmp (geometry_of m) t.arcs) t
+  topology_holds = record {
     grid = is.grid;
     bbox = is.bbox;
-    alone = arcs_stand cmp o same dec (geometry_of m) sg t.arcs is.arcs;
+    alone = arcs_hold cmp o same dec (geometry_of m) sg t.arcs is.arcs;
     layers = Pairwise-on (IsLayerOf cmp (JunctionOf (geometry_of m)) t.arcs) (IsReadLayer cmp t.arcs (arcs_as_map cmp (geometry_of m) t.arcs)) m t.layers is.layers
         (λ l k i h. record {
           name = h.name;

@@ -1,9 +1,9 @@
 -- The laws of what stands, proved.
 use Rattle.theory.proofs.Ascending.{dec_by}
 use Rattle.theory.proofs.SegmentsOnce.{segments_once}
-use Rattle.theory.proofs.ValidNoding.{apart_stand}
+use Rattle.theory.proofs.ValidNoding.{apart_hold}
 use Rattle.theory.proofs.ValidArcs.{are_arcs, sound}
-use Rattle.theory.proofs.ValidityHolds.{arcs_apart, topology_stands}
+use Rattle.theory.proofs.ValidityHolds.{arcs_apart, topology_holds}
 use Rattle.theory.proofs.ValidMaps.{alike, arcs_of_map, list_line, list_ring, map_sound}
 use Rattle.theory.proofs.ValidRings.{ring_turned}
 use Rattle.theory.proofs.ValidTopologies.{sound_map, standing}
@@ -12,7 +12,7 @@ use Rattle.theory.specs.ValidityLaws as law
 use Rattle.theory.specs.Topology.{geometry_of}
 
 pub noded_arcs_are_valid : {V : Type 0} → law.NodedArcsAreValid V
-noded_arcs_are_valid cmp o arcs a st = apart_stand cmp o.total o.same arcs a st
+noded_arcs_are_valid cmp o arcs a st = apart_hold cmp o.total o.same arcs a st
 
 pub valid_arcs_are_the_maps : {V : Type 0} → law.ValidArcsAreTheMaps V
 valid_arcs_are_the_maps cmp o arcs a st =
@@ -47,6 +47,6 @@ pub topology_of_a_map_is_valid : {V I G B : Type 0} → law.TopologyOfAMapIsVali
 topology_of_a_map_is_valid cmp box_of on m o sg t is =
     let dec = dec_by cmp o.total o.same in (
       arcs_as_map cmp (geometry_of m) t.arcs,
-      topology_stands cmp o.total o.same dec box_of on m sg t is,
+      topology_holds cmp o.total o.same dec box_of on m sg t is,
       arcs_apart cmp o.total o.same dec (geometry_of m) sg t.arcs is.arcs,
     )

@@ -40,12 +40,12 @@ smaller c (x ∷ ns) (inr h) =
     (x ∷ t.0, omega (arith, t.1), λ v h n. elim h [ inl f ↦ inl f | inr k ↦ inr (t.2 v k n) ])
 
 -- the list has all vertices that have their links
-abbrev AllNoted : {V : Type 0} → (V → Option (V × V)) → List V → Type 0
-AllNoted {V} m ns = (v : V) → Noted m v → Has v ns
+abbrev AllRecorded : {V : Type 0} → (V → Option (V × V)) → List V → Type 0
+AllRecorded {V} m ns = (v : V) → Noted m v → Has v ns
 
-none_noted : {V : Type 0} (m : V → Option (V × V)) (ns : List V) → AllNoted m ns → length ns ≤ 0 → (v : V) → m v ≡ None
-none_noted m [] all n v = elim (option_split (m v)) [ inl e ↦ e | inr t ↦ absurd (all v t) ]
-none_noted m (x ∷ ns) all n v = absurd (omega (arith, n))
+none_recorded : {V : Type 0} (m : V → Option (V × V)) (ns : List V) → AllRecorded m ns → length ns ≤ 0 → (v : V) → m v ≡ None
+none_recorded m [] all n v = elim (option_split (m v)) [ inl e ↦ e | inr t ↦ absurd (all v t) ]
+none_recorded m (x ∷ ns) all n v = absurd (omega (arith, n))
 
 module _ {V : Type 0} (dec : (a b : V) → Dec (a ≡ b)) where
   -- the links without those of c
@@ -58,8 +58,8 @@ module _ {V : Type 0} (dec : (a b : V) → Dec (a ≡ b)) where
     rest = λ q n. unless_no (dec q c) (m q) n;
   }
 
-  noted_yet : (m : V → Option (V × V)) (c v : V) → Noted (without m c) v → (¬ (v ≡ c)) × Noted m v
-  noted_yet m c v t =
+  recorded_yet : (m : V → Option (V × V)) (c v : V) → Noted (without m c) v → (¬ (v ≡ c)) × Noted m v
+  recorded_yet m c v t =
       elim (dec v c) [
         | yes e ↦ absurd (none_some (without m c v) (t.0, t.1) (unless_yes (dec v c) (m v) e) t.2)
         | no n ↦ (n, (t.0, t.1, sym (unless_no (dec v c) (m v) n) ∙ t.2))
@@ -72,28 +72,28 @@ module _ {V : Type 0} (dec : (a b : V) → Dec (a ≡ b)) where
     pub walked : Walked m p c list left
     pub fewer : (v : V) → Noted left v → Noted m v
 
-  walk : (fuel : ℕ) (m : V → Option (V × V)) (ns : List V) → AllNoted m ns → length ns ≤ fuel → (p c : V) → Walk m p c
-  walk zero m ns all n p c = record { list = []; left = m; walked = (none_noted m ns all n c, λ q. refl); fewer = λ v t. t }
+  walk : (fuel : ℕ) (m : V → Option (V × V)) (ns : List V) → AllRecorded m ns → length ns ≤ fuel → (p c : V) → Walk m p c
+  walk zero m ns all n p c = record { list = []; left = m; walked = (none_recorded m ns all n c, λ q. refl); fewer = λ v t. t }
   walk (suc fuel) m ns all n p c =
       elim (option_split (m c)) [
         | inl e ↦ record { list = []; left = m; walked = (e, λ q. refl); fewer = λ v t. t }
         | inr (a, b, e) ↦
             let s = smaller c ns (all c (a, b, e)) in
             let h = without m c in
-            let all' : AllNoted h s.0 = λ v t. let k = noted_yet m c v t in s.2 v (all v k.1) k.0 in
+            let all' : AllRecorded h s.0 = λ v t. let k = recorded_yet m c v t in s.2 v (all v k.1) k.0 in
             let n' : length s.0 ≤ fuel = omega (arith, n, s.1) in
             elim (dec a p) [
               | yes ap ↦ (let t = walk fuel h s.0 all' n' c b in record {
                 list = b ∷ t.list;
                 left = t.left;
                 walked = (a, b, e, inl (ap, refl), h, removed m c, t.walked);
-                fewer = λ v k. (noted_yet m c v (t.fewer v k)).1;
+                fewer = λ v k. (recorded_yet m c v (t.fewer v k)).1;
               })
               | no na ↦ (let t = walk fuel h s.0 all' n' c a in record {
                 list = a ∷ t.list;
                 left = t.left;
                 walked = (a, b, e, inr (na, refl), h, removed m c, t.walked);
-                fewer = λ v k. (noted_yet m c v (t.fewer v k)).1;
+                fewer = λ v k. (recorded_yet m c v (t.fewer v k)).1;
               })
             ]
       ]
@@ -167,7 +167,7 @@ module _ {V : Type 0} (cmp : V → V → Ordering) (o : IsTotalOrder cmp) (same 
   are_links : AreLinks n first_links
   unfolding first_links
   are_links = record {
-    noted = λ v a b e. link_good v (stop_or_not cmp o same dec n ok v) (segment_at dec v n.segments) a b e;
+    recorded = λ v a b e. link_good v (stop_or_not cmp o same dec n ok v) (segment_at dec v n.segments) a b e;
     every = λ v w j k. link_there v w (stop_or_not cmp o same dec n ok v) (segment_at dec v n.segments) j k;
   }
 
@@ -176,7 +176,7 @@ module _ {V : Type 0} (cmp : V → V → Ordering) (o : IsTotalOrder cmp) (same 
     pub left : V → Option (V × V)
     pub lists : List (List V)
     pub found : Found cmp n left lists
-    pub noted : AllNoted left ns
+    pub recorded : AllRecorded left ns
 
   -- each of these segments that begins at a stop is on a chain
   abbrev Covers : List (V × V) → List (List V) → Type 0
@@ -185,12 +185,12 @@ module _ {V : Type 0} (cmp : V → V → Ordering) (o : IsTotalOrder cmp) (same 
   more : (ns : List V) (t : Taken ns) (todo : List (V × V)) → Covers todo t.lists → (u v : V) → Joins n u v → IsStop n u → IsStop n v ⊎ Noted t.left v →
       (s : Taken ns) × Covers ((u, v) ∷ todo) s.lists
   more ns t todo c u v k ju start =
-      let w = walk dec (length ns) t.left ns t.noted (omega arith) u v in (
+      let w = walk dec (length ns) t.left ns t.recorded (omega arith) u v in (
         record {
           left = w.left;
           lists = (u ∷ (v ∷ w.list)) ∷ t.lists;
           found = (t.left, t.found, inl (ju, k, start, w.walked));
-          noted = λ x h. t.noted x (w.fewer x h);
+          recorded = λ x h. t.recorded x (w.fewer x h);
         },
         λ x y h jx. elim h [
           | inl e ↦ (u ∷ (v ∷ w.list), inl refl, inl (inl (ap (λ q. q.0) e, ap (λ q. q.1) e)))
@@ -235,10 +235,10 @@ module _ {V : Type 0} (cmp : V → V → Ordering) (o : IsTotalOrder cmp) (same 
           ]
 
   -- the least vertex that has its links yet, where one has
-  least_noted : (k : V → Option (V × V)) (ns : List V) →
+  least_recorded : (k : V → Option (V × V)) (ns : List V) →
       ((x : V) × Noted k x × ((v : V) → Has v ns → Noted k v → AtMost cmp x v)) ⊎ ((v : V) → Has v ns → k v ≡ None)
-  least_noted k [] = inr (λ v h. absurd h)
-  least_noted k (x ∷ ns) = by (least_noted k ns) (option_split (k x))
+  least_recorded k [] = inr (λ v h. absurd h)
+  least_recorded k (x ∷ ns) = by (least_recorded k ns) (option_split (k x))
     where
       no_link : (v : V) → Noted k v → k v ≡ None → ⊥
       no_link v t e = none_some (k v) (t.0, t.1) e t.2
@@ -292,27 +292,27 @@ module _ {V : Type 0} (cmp : V → V → Ordering) (o : IsTotalOrder cmp) (same 
     pub covered : StopsCovered n lists
 
   round_the_rest : (fuel : ℕ) (ns : List V) (t : Taken ns) → length ns ≤ fuel → StopsCovered n t.lists → Done
-  round_the_rest zero ns t m c = record { left = t.left; lists = t.lists; found = t.found; none = none_noted t.left ns t.noted m; covered = c }
+  round_the_rest zero ns t m c = record { left = t.left; lists = t.lists; found = t.found; none = none_recorded t.left ns t.recorded m; covered = c }
   round_the_rest (suc fuel) ns t m c =
-      elim (least_noted t.left ns) [
+      elim (least_recorded t.left ns) [
         | inr f ↦ record {
           left = t.left;
           lists = t.lists;
           found = t.found;
-          none = λ v. elim (option_split (t.left v)) [ inl e ↦ e | inr e ↦ f v (t.noted v e) ];
+          none = λ v. elim (option_split (t.left v)) [ inl e ↦ e | inr e ↦ f v (t.recorded v e) ];
           covered = c;
         }
         | inl (x, (a, b, e), least) ↦
             let h = without dec t.left x in
-            let s = smaller x ns (t.noted x (a, b, e)) in
-            let all : AllNoted h s.0 = λ v q. let k = noted_yet dec t.left x v q in s.2 v (t.noted v k.1) k.0 in
+            let s = smaller x ns (t.recorded x (a, b, e)) in
+            let all : AllRecorded h s.0 = λ v q. let k = recorded_yet dec t.left x v q in s.2 v (t.recorded v k.1) k.0 in
             let w = walk dec (length s.0) h s.0 all (omega arith) x a in
             round_the_rest fuel s.0
             (record {
               left = w.left;
               lists = (x ∷ (a ∷ w.list)) ∷ t.lists;
-              found = (t.left, t.found, inr (c, (b, h, e, (λ v q. least v (t.noted v q) q), removed dec t.left x, w.walked)));
-              noted = λ v q. all v (w.fewer v q);
+              found = (t.left, t.found, inr (c, (b, h, e, (λ v q. least v (t.recorded v q) q), removed dec t.left x, w.walked)));
+              recorded = λ v q. all v (w.fewer v q);
             })
             (omega (arith, m, s.1))
             (λ u v ju k. let d = c u v ju k in (d.0, inr d.1, d.2))
@@ -341,7 +341,7 @@ module _ {V : Type 0} (cmp : V → V → Ordering) (o : IsTotalOrder cmp) (same 
   unfolding both_ways
   walks_exist =
       let a = from_stops (ends_of n.segments) both_ways joins
-      (record { left = first_links; lists = []; found = are_links; noted = λ v t. there v t.0 (are_links.noted v t.0 t.1 t.2).1 }) in
+      (record { left = first_links; lists = []; found = are_links; recorded = λ v t. there v t.0 (are_links.recorded v t.0 t.1 t.2).1 }) in
       round_the_rest (length (ends_of n.segments)) (ends_of n.segments) a.0 (omega arith)
       (λ u v ju k. a.1 u v (elim k [
         | inl h ↦ Has-append_left {V = V × V} (u, v) n.segments (flipped n.segments) h

@@ -54,7 +54,7 @@ module _ {V : Type 0} (cmp : V → V → Ordering) (o : IsTotalOrder cmp) (same 
 
   pub joining : (k : V → Option (V × V)) (ds : List (List V)) → Found cmp n k ds → Joining (Joins n) (IsStop n) (AtMost cmp) k (λ d. Has d ds)
   joining k [] f = record {
-    links = f.noted;
+    links = f.recorded;
     chains = λ d h. absurd h;
     apart = λ d h. absurd h;
     known = λ v w j s e. let t = f.every v w j s in absurd (none_some (k v) (t.0, t.1) e t.2);

@@ -50,7 +50,7 @@ pub record KeptLaws {V : Type 0} (cmp : V → V → Ordering) (g u : Geometry V)
   pub loop_free : (k : ℕ) (d : List V) → slice_get table k ≡ Some d → Free (JunctionOf u) d → Free (JunctionOf g) d
   -- a kept arc with two junctions for its ends, and a kept free loop, is an arc of g
   pub stands : (k : ℕ) (d : List V) → IsKept cmp g u table k → slice_get table k ≡ Some d → ((v : V) → EndOf v d → JunctionOf g v) → IsArcOf cmp g d
-  pub loop_stands : (k : ℕ) (d : List V) → IsKept cmp g u table k → slice_get table k ≡ Some d → Free (JunctionOf u) d → IsArcOf cmp g d
+  pub loop_holds : (k : ℕ) (d : List V) → IsKept cmp g u table k → slice_get table k ≡ Some d → Free (JunctionOf u) d → IsArcOf cmp g d
 
 -- of a used old arc: the used new arc that begins with it, and how many of its pieces follow
 abbrev pub Starts : Type 0
@@ -58,7 +58,7 @@ Starts = ArcRef → Option (ArcRef × ℕ)
 
 -- each used new arc is noted at the used old arc that it begins with, and nothing else is noted
 pub record AreStarts (pieces : List (List ArcRef)) (starts : Starts) : Type 0 where
-  pub noted : (a b : ArcRef) (more : List ArcRef) → pieces_of_used pieces b ≡ a ∷ more → starts a ≡ Some (b, length more)
+  pub recorded : (a b : ArcRef) (more : List ArcRef) → pieces_of_used pieces b ≡ a ∷ more → starts a ≡ Some (b, length more)
   pub only : (a b : ArcRef) (n : ℕ) → starts a ≡ Some (b, n) → (more : List ArcRef) × (pieces_of_used pieces b ≡ a ∷ more) × (length more ≡ n)
 
 -- the new arc, if one begins

@@ -8,10 +8,10 @@ use Rattle.topo.specs.Parts.{Corners}
 use Rattle.topo.proofs.Boxes.{box_append}
 
 -- one more of those that are left
-pub gathered_step : {A : Type 0} (f : A → List Pos) (place : Pos → ℤ × ℤ) (b c : Option Corners) (xs : List A) (i : ℕ) (x : A) → i < length xs → x ≡ get_or xs i x →
-    c ≡ box_by place b (f x) → box_by place c (gathered f (drop (i + 1) xs)) ≡ box_by place b (gathered f (drop i xs))
-gathered_step f place b c xs i x k e is =
-    ap (λ w. box_by place w (gathered f (drop (i + 1) xs))) is
-    ∙ sym (box_append place b (f x) (gathered f (drop (i + 1) xs)))
-    ∙ ap (λ w. box_by place b (f w ++ gathered f (drop (i + 1) xs))) e
-    ∙ sym (ap (λ w. box_by place b (gathered f w)) (drop_more xs i x k))
+pub gathered_step : {A : Type 0} (f : A → List Pos) (index : Pos → ℤ × ℤ) (b c : Option Corners) (xs : List A) (i : ℕ) (x : A) → i < length xs → x ≡ get_or xs i x →
+    c ≡ box_by index b (f x) → box_by index c (gathered f (drop (i + 1) xs)) ≡ box_by index b (gathered f (drop i xs))
+gathered_step f index b c xs i x k e is =
+    ap (λ w. box_by index w (gathered f (drop (i + 1) xs))) is
+    ∙ sym (box_append index b (f x) (gathered f (drop (i + 1) xs)))
+    ∙ ap (λ w. box_by index b (f w ++ gathered f (drop (i + 1) xs))) e
+    ∙ sym (ap (λ w. box_by index b (gathered f w)) (drop_more xs i x k))

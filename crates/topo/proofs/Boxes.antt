@@ -12,9 +12,9 @@ use Rattle.theory.proofs.Lists.{Has-append, Has-append_left, Has-append_right, a
 use Rattle.topo.specs.Parts.{Corners}
 use Rattle.topo.specs.Box.{widened_at, box_by, box_of, numbers_of, AreGridNumbers, absolute_corners}
 
-pub box_append : (place : Pos → ℤ × ℤ) (b : Option Corners) (xs ys : List Pos) → box_by place b (xs ++ ys) ≡ box_by place (box_by place b xs) ys
-box_append place b [] ys = refl
-box_append place b (x ∷ xs) ys = box_append place (Some (widened_at b (place x))) xs ys
+pub box_append : (index : Pos → ℤ × ℤ) (b : Option Corners) (xs ys : List Pos) → box_by index b (xs ++ ys) ≡ box_by index (box_by index b xs) ys
+box_append index b [] ys = refl
+box_append index b (x ∷ xs) ys = box_append index (Some (widened_at b (index x))) xs ys
 
 abbrev AtMost : ℤ → ℤ → Type 0
 AtMost a b = a ≤ℤ b
@@ -109,56 +109,56 @@ module _ {R : ℤ → ℤ → Type 0} {choose : ℤ → ℤ → ℤ} (of : IsCho
       (subst (λ w. R a w) (sym k.there.2) (h.all k.there.0 (from k.there.0 k.there.1)))
       (subst (λ w. R b w) (sym h.there.2) (k.all h.there.0 (to h.there.0 h.there.1)))
 
-module _ (place : Pos → ℤ × ℤ) where
+module _ (index : Pos → ℤ × ℤ) where
   record IsAround (ps : List Pos) (b : Corners) : Type 0 where
-    west : IsFirst AtMost (λ p. (place p).0) ps b.0
-    south : IsFirst AtMost (λ p. (place p).1) ps b.1
-    east : IsFirst AtLeast (λ p. (place p).0) ps b.2
-    north : IsFirst AtLeast (λ p. (place p).1) ps b.3
+    west : IsFirst AtMost (λ p. (index p).0) ps b.0
+    south : IsFirst AtMost (λ p. (index p).1) ps b.1
+    east : IsFirst AtLeast (λ p. (index p).0) ps b.2
+    north : IsFirst AtLeast (λ p. (index p).1) ps b.3
 
   abbrev IsBox : List Pos → Option Corners → Type 0
   IsBox ps None = (p : Pos) → ¬ Has p ps
   IsBox ps (Some b) = IsAround ps b
 
-  around_one : (p : Pos) → IsAround (p ∷ []) (widened_at None (place p))
+  around_one : (p : Pos) → IsAround (p ∷ []) (widened_at None (index p))
   around_one p = record {
-    west = first_one lesser (λ q. (place q).0) p;
-    south = first_one lesser (λ q. (place q).1) p;
-    east = first_one greater (λ q. (place q).0) p;
-    north = first_one greater (λ q. (place q).1) p;
+    west = first_one lesser (λ q. (index q).0) p;
+    south = first_one lesser (λ q. (index q).1) p;
+    east = first_one greater (λ q. (index q).0) p;
+    north = first_one greater (λ q. (index q).1) p;
   }
 
-  around_more : (ps : List Pos) (b : Corners) (p : Pos) → IsAround ps b → IsAround (ps ++ (p ∷ [])) (widened_at (Some b) (place p))
+  around_more : (ps : List Pos) (b : Corners) (p : Pos) → IsAround ps b → IsAround (ps ++ (p ∷ [])) (widened_at (Some b) (index p))
   around_more ps b p h = record {
-    west = first_more lesser (λ q. (place q).0) ps b.0 p h.west;
-    south = first_more lesser (λ q. (place q).1) ps b.1 p h.south;
-    east = first_more greater (λ q. (place q).0) ps b.2 p h.east;
-    north = first_more greater (λ q. (place q).1) ps b.3 p h.north;
+    west = first_more lesser (λ q. (index q).0) ps b.0 p h.west;
+    south = first_more lesser (λ q. (index q).1) ps b.1 p h.south;
+    east = first_more greater (λ q. (index q).0) ps b.2 p h.east;
+    north = first_more greater (λ q. (index q).1) ps b.3 p h.north;
   }
 
   none_left : (ps : List Pos) → ((p : Pos) → ¬ Has p ps) → ps ≡ []
   none_left [] h = refl
   none_left (p ∷ ps) h = absurd (h p (inl refl))
 
-  box_more : (ps : List Pos) (b : Option Corners) (p : Pos) → IsBox ps b → IsBox (ps ++ (p ∷ [])) (Some (widened_at b (place p)))
-  box_more ps None p h = subst (λ w. IsAround (w ++ (p ∷ [])) (widened_at None (place p))) (sym (none_left ps h)) (around_one p)
+  box_more : (ps : List Pos) (b : Option Corners) (p : Pos) → IsBox ps b → IsBox (ps ++ (p ∷ [])) (Some (widened_at b (index p)))
+  box_more ps None p h = subst (λ w. IsAround (w ++ (p ∷ [])) (widened_at None (index p))) (sym (none_left ps h)) (around_one p)
   box_more ps (Some b) p h = around_more ps b p h
 
-  box_is : (done ps : List Pos) (b : Option Corners) → IsBox done b → IsBox (done ++ ps) (box_by place b ps)
+  box_is : (done ps : List Pos) (b : Option Corners) → IsBox done b → IsBox (done ++ ps) (box_by index b ps)
   box_is done [] b h = subst (λ w. IsBox w b) (sym (append_nil done)) h
   box_is done (p ∷ ps) b h =
-      subst (λ w. IsBox w (box_by place (Some (widened_at b (place p))) ps)) (append_assoc done (p ∷ []) ps)
-      (box_is (done ++ (p ∷ [])) ps (Some (widened_at b (place p))) (box_more done b p h))
+      subst (λ w. IsBox w (box_by index (Some (widened_at b (index p))) ps)) (append_assoc done (p ∷ []) ps)
+      (box_is (done ++ (p ∷ [])) ps (Some (widened_at b (index p))) (box_more done b p h))
 
   one_box : (ps qs : List Pos) (b c : Option Corners) → AllIn ps qs → AllIn qs ps → IsBox ps b → IsBox qs c → b ≡ c
   one_box ps qs None None to from h k = refl
   one_box ps qs None (Some c) to from h k = absurd (h k.west.there.0 (from k.west.there.0 k.west.there.1))
   one_box ps qs (Some b) None to from h k = absurd (k h.west.there.0 (to h.west.there.0 h.west.there.1))
   one_box ps qs (Some b) (Some c) to from h k =
-      let w : b.0 ≡ c.0 = first_same lesser (λ q. (place q).0) ps qs b.0 c.0 to from h.west k.west in
-      let s : b.1 ≡ c.1 = first_same lesser (λ q. (place q).1) ps qs b.1 c.1 to from h.south k.south in
-      let e : b.2 ≡ c.2 = first_same greater (λ q. (place q).0) ps qs b.2 c.2 to from h.east k.east in
-      let n : b.3 ≡ c.3 = first_same greater (λ q. (place q).1) ps qs b.3 c.3 to from h.north k.north in
+      let w : b.0 ≡ c.0 = first_same lesser (λ q. (index q).0) ps qs b.0 c.0 to from h.west k.west in
+      let s : b.1 ≡ c.1 = first_same lesser (λ q. (index q).1) ps qs b.1 c.1 to from h.south k.south in
+      let e : b.2 ≡ c.2 = first_same greater (λ q. (index q).0) ps qs b.2 c.2 to from h.east k.east in
+      let n : b.3 ≡ c.3 = first_same greater (λ q. (index q).1) ps qs b.3 c.3 to from h.north k.north in
       λ i. Some (w i, s i, e i, n i)
 
 -- the same positions, the same box

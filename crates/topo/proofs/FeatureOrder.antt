@@ -83,9 +83,9 @@ then_groups Equal b c = refl
 then_groups Greater b c = refl
 
 -- two geometries stand as the features that they stitch to
-pub features_stand : (arcs : List (List Pos)) (f h : Feature) (a b : Geom) → IsFeatureOf arcs f a → IsFeatureOf arcs h b → feature_cmp f h ≡ geometry_cmp arcs a b
+pub features_hold : (arcs : List (List Pos)) (f h : Feature) (a b : Geom) → IsFeatureOf arcs f a → IsFeatureOf arcs h b → feature_cmp f h ≡ geometry_cmp arcs a b
 unfolding feature_cmp geometry_cmp
-features_stand arcs f h a b k m =
+features_hold arcs f h a b k m =
     then_groups (id_cmp f.id h.id) (slice_cmp nat_cmp f.props.text h.props.text) (shape_cmp f.shape h.shape)
     ∙ (λ i. ordering_then (ordering_then (id_cmp (k.id i) (m.id i)) (slice_cmp nat_cmp (k.props i).text (m.props i).text)) (shapes_by_form f.shape h.shape i))
     ∙ (λ i. ordering_then (info_cmp a b) (form_cmp (shape_form arcs f.shape a.body k.shape i) (shape_form arcs h.shape b.body m.shape i)))
@@ -136,7 +136,7 @@ pub equal_bodies_tie : (arcs : List (List Pos)) (f : Feature) (a b : Geom) (r : 
     a.body ≡ b.body → Equal ≡ geometry_cmp arcs a b
 unfolding geometry_cmp
 equal_bodies_tie arcs f a b r h e n same =
-    let itself : geometry_cmp arcs a a ≡ Equal = sym (features_stand arcs f f a a h h) ∙ tied_itself feature_cmp_total f in
+    let itself : geometry_cmp arcs a a ≡ Equal = sym (features_hold arcs f f a a h h) ∙ tied_itself feature_cmp_total f in
     let form : form_cmp (body_form arcs a.body) (body_form arcs a.body) ≡ Equal = second_ties (info_cmp a a) (form_cmp (body_form arcs a.body) (body_form arcs a.body)) itself in
     let info : info_cmp a b ≡ Equal = both_tie (info_cmp a b) (nat_cmp (body_rank a.body) (body_rank b.body)) (sym (ap is_ne e) ∙ n) in
     let other = sym same in

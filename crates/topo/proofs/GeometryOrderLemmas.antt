@@ -3,7 +3,7 @@ pub mod RingSteps
 pub mod ArcSteps
 pub mod RoundRings
 pub mod LeastSteps
-pub mod RingsStand
-pub mod BodiesStand
+pub mod RingsHold
+pub mod BodiesHold
 pub mod NodedTables
-pub mod KeysStand
+pub mod KeysHold

@@ -17,8 +17,8 @@ numbers_of p = (p.x, p.y)
 
 -- the box widened by the place of each position
 abbrev pub box_by : (Pos → ℤ × ℤ) → Option Corners → List Pos → Option Corners
-box_by place b [] = b
-box_by place b (p ∷ ps) = box_by place (Some (widened_at b (place p))) ps
+box_by index b [] = b
+box_by index b (p ∷ ps) = box_by index (Some (widened_at b (index p))) ps
 
 -- the box widened by a position [TopoJSON, 3]
 abbrev pub widened : Transform → Option Corners → Pos → Corners

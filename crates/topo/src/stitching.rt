@@ -1,5 +1,5 @@
 //! Features put together from arcs.
-ghost use Rattle.grid.specs.declared.pos.Pos.{Pos as place};
+ghost use Rattle.grid.specs.declared.pos.Pos.{Pos as index};
 ghost use Rattle.shapes.specs.declared.feature.Feature as features;
 ghost use Rattle.shapes.specs.Shapes as shapes;
 ghost use Rattle.std.specs.Prelude.{◌≡◌, IfOk, List};
@@ -39,7 +39,7 @@ trait Stitch: Sized + Drop {
     /// What it is stitched from.
     type Used;
 
-    ghost stitches_by: { List (List place) → Self → Self.Used → Type 0 };
+    ghost stitches_by: { List (List index) → Self → Self.Used → Type 0 };
 
     /// What stitches by these, where anything does.
     fn stitch(alloc: Global, arcs: &ArcTable, used: &Self::Used) -> Result<Self, OutOfMemory>

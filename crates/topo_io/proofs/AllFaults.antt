@@ -24,9 +24,9 @@ use Rattle.reading.specs.Scan.{scan_faults}
 use Rattle.reading.specs.Text.{document, text_faults}
 use Rattle.reading.specs.declared.fault_lists.found.Wanted.{Wanted}
 use Rattle.reading.specs.declared.fault_lists.found.Wanted.TheVariants.{First, All}
-use Rattle.reading.proofs.FaultListsLemmas.Ascending.{first_told}
+use Rattle.reading.proofs.FaultListsLemmas.Ascending.{first_means}
 use Rattle.reading.proofs.FaultListsLemmas.Kept.{FoundSoFar, so_far_next, found_none, found_same, found_under, found_more, found_enough, none_found, one_none, one_under}
-use Rattle.reading.proofs.FaultListsLemmas.Wholes.{no_document, outline_told}
+use Rattle.reading.proofs.FaultListsLemmas.Wholes.{no_document, outline_means}
 use Rattle.reading.proofs.Lists.{elements_are}
 use Rattle.topo_io.specs.Limits.{moved}
 use Rattle.theory.specs.ArcNumbers.{ArcRef}
@@ -38,9 +38,9 @@ use Rattle.topo_io.specs.declared.validity.list.OutlineType.{OutlineType}
 
 -- ---- what was found, and what there is
 
-pub none_told : (fs : List Fault) → pairs_of fs ≡ [] → fs ≡ []
-none_told [] e = refl
-none_told (f ∷ fs) e = cc
+pub none_means : (fs : List Fault) → pairs_of fs ≡ [] → fs ≡ []
+none_means [] e = refl
+none_means (f ∷ fs) e = cc
 
 pub pairs_join : (fs gs : List Fault) → pairs_of (fs ++ gs) ≡ pairs_of fs ++ pairs_of gs
 pairs_join [] gs = refl
@@ -52,7 +52,7 @@ kept_none All = refl
 
 -- where one was found there is one
 pub some_there : (w : Wanted) (ps : List Pair) (fs : List Fault) → AreFound w ps (pairs_of fs) → (fs ≡ [] → ⊥) → ps ≡ [] → ⊥
-some_there w ps fs h some none = some (none_told fs (h.are ∙ ap (kept w) none ∙ kept_none w))
+some_there w ps fs h some none = some (none_means fs (h.are ∙ ap (kept w) none ∙ kept_none w))
 
 -- ---- one part after another, where what is asked of a part rests on those before it
 
@@ -153,16 +153,16 @@ the_one k p h = go h.present
     go (zero, less, is) = sym (ap (λ q. q.kind) is)
     go (suc i, less, is) = absurd (omega (arith, less))
 
-here_told : (k : FaultKind) (f : Fault) (qs : List Pair) → LeastOrWant (here k) f → (f.kind ≡ OutOfMemory → ⊥) → AtMostOne (here f.kind) qs → AtMostOne (here k) qs
-here_told k f qs least real h = subst (λ j. AtMostOne (here j) qs) (the_one k (pair_of f) (least.least real)) h
+here_means : (k : FaultKind) (f : Fault) (qs : List Pair) → LeastOrWant (here k) f → (f.kind ≡ OutOfMemory → ⊥) → AtMostOne (here f.kind) qs → AtMostOne (here k) qs
+here_means k f qs least real h = subst (λ j. AtMostOne (here j) qs) (the_one k (pair_of f) (least.least real)) h
 
 -- the fault that was told of what used arcs stitch to is all that they have
-pub stitched_told : (k : OutlineType) (o : Option (List Pos)) (f : Fault) (qs : List Pair) → LeastOrWant (stitched_faults (faults_as k) o) f → (f.kind ≡ OutOfMemory → ⊥) → AtMostOne (here f.kind) qs → AtMostOne (stitched_faults (faults_as k) o) qs
-stitched_told k None f qs least real h = here_told Broken f qs least real h
-stitched_told k (Some ps) f qs least real h = outline_told (fault_of k ps) f qs least real h
+pub stitched_says : (k : OutlineType) (o : Option (List Pos)) (f : Fault) (qs : List Pair) → LeastOrWant (stitched_faults (faults_as k) o) f → (f.kind ≡ OutOfMemory → ⊥) → AtMostOne (here f.kind) qs → AtMostOne (stitched_faults (faults_as k) o) qs
+stitched_says k None f qs least real h = here_means Broken f qs least real h
+stitched_says k (Some ps) f qs least real h = outline_means (fault_of k ps) f qs least real h
 
-pub faultless_told : (ps : List Pair) (fs : List Fault) → ps ≡ [] → fs ≡ [] → AtMostOne ps (pairs_of fs)
-faultless_told ps fs none empty = rw (none, empty) one_none
+pub faultless_means : (ps : List Pair) (fs : List Fault) → ps ≡ [] → fs ≡ [] → AtMostOne ps (pairs_of fs)
+faultless_means ps fs none empty = rw (none, empty) one_none
 
 -- what is asked of the list where no index has a fault
 pub stitching_only : (k : OutlineType) (arcs : List (List Pos)) (d : Data) (seen : List ArcRef) (qs : List Pair) → list_faults (index_faults (known arcs)) d ≡ [] → map (along arcs) seen ≡ used_arcs arcs d → AtMostOne (used_faults arcs k seen) qs
@@ -200,7 +200,7 @@ pub first_none : (ps : List Pair) (fs : List Fault) → AreFound First ps (pairs
 first_none ps fs h none = no_faults First ps fs h none
 
 pub first_least : (ps : List Pair) (f : Fault) (fs gs : List Fault) → IsAscending ps → AreFound First ps (pairs_of gs) → gs ≡ f ∷ fs → LeastOrWant ps f
-first_least ps f fs gs a h is = first_told ps f fs a (subst (AreFound First ps) (ap pairs_of is) h)
+first_least ps f fs gs a h is = first_means ps f fs a (subst (AreFound First ps) (ap pairs_of is) h)
 
 pub text_refused : (bytes : List ℕ) (f : Fault) (qs : List Pair) → ((of : Data → List Pair) → LeastOrWant (text_faults of (document bytes)) f) → (f.kind ≡ OutOfMemory → ⊥) → AtMostOne (here f.kind) qs → qs ≡ faults_of_text bytes
 text_refused bytes f qs least real h = h.same ∙ sym (no_document (document bytes) f least real topology_faults)

@@ -19,7 +19,7 @@ use Rattle.topo.specs.Features.{AreFeaturesOf, IsFeatureOf}
 use Rattle.topo.specs.OfMap.{ArePartsOf, IsOf}
 use Rattle.topo.specs.Parts.{LayerParts, TopologyParts}
 use Rattle.topo.specs.declared.geom.Geom.{Geom}
-use Rattle.topo.proofs.FeatureOrder.{features_stand}
+use Rattle.topo.proofs.FeatureOrder.{features_hold}
 use Rattle.validate.specs.Accept.Kept.{KeepLayers, KeepsFeature}
 use Rattle.validate.specs.Accept.Laws.{HaveI64, IsStitched, AreValidLayers}
 use Rattle.validate.specs.Accept.Order.{InOrder}
@@ -83,7 +83,7 @@ module _ (arcs new_arcs : List (List Pos)) where
   -- a geometry stitches to one feature
   one_feature : (f h : Feature) (k : Geom) → IsFeatureOf new_arcs f k → IsFeatureOf new_arcs h k → f ≡ h
   one_feature f h k a b =
-      same_feature f h (features_stand new_arcs f h k k a b ∙ sym (features_stand new_arcs f f k k a a) ∙ tied_itself feature_cmp_total f)
+      same_feature f h (features_hold new_arcs f h k k a b ∙ sym (features_hold new_arcs f f k k a a) ∙ tied_itself feature_cmp_total f)
 
   -- the features of a layer's geometries, where the new ones stand in another order
   module _ (fs : List Feature) (gs ks ms : List Geom) (keep : Pairwise (KeepsFeature arcs new_arcs) gs ks) (moved : (g : Geom) → Has g ks ↔ Has g ms) (are : AreFeaturesOf new_arcs fs ms) where

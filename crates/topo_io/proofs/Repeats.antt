@@ -142,16 +142,16 @@ without_short ((y ∷ (z ∷ d)) ∷ cs) x w r h =
     go false h after = absurd cc
 
 -- a list that has more than one position in the end
-begun_short : (cs : List (List Pos)) (x : Pos) (r : List Pos) → 1 < length (once r) → stitched_onto (x ∷ []) cs ≡ Some r → stitched_onto [] (keep long cs) ≡ Some r
-begun_short [] x r n h = let k : x ∷ [] ≡ r = cc in absurd (let one : 1 < length (once (x ∷ [])) = subst (λ w. 1 < length (once w)) (sym k) n in omega (arith, one))
-begun_short ([] ∷ cs) x r n h = begun_short cs x r n h
-begun_short ((y ∷ []) ∷ cs) x r n h = go (meets (x ∷ []) (y ∷ [])) h (λ g. begun_short cs x r n g)
+started_short : (cs : List (List Pos)) (x : Pos) (r : List Pos) → 1 < length (once r) → stitched_onto (x ∷ []) cs ≡ Some r → stitched_onto [] (keep long cs) ≡ Some r
+started_short [] x r n h = let k : x ∷ [] ≡ r = cc in absurd (let one : 1 < length (once (x ∷ [])) = subst (λ w. 1 < length (once w)) (sym k) n in omega (arith, one))
+started_short ([] ∷ cs) x r n h = started_short cs x r n h
+started_short ((y ∷ []) ∷ cs) x r n h = go (meets (x ∷ []) (y ∷ [])) h (λ g. started_short cs x r n g)
   where
     go : (b : Bool) → (if b then stitched_onto (x ∷ []) cs else None) ≡ Some r → (stitched_onto (x ∷ []) cs ≡ Some r → stitched_onto [] (keep long cs) ≡ Some r) →
         stitched_onto [] (keep long cs) ≡ Some r
     go true h after = after h
     go false h after = absurd cc
-begun_short ((y ∷ (z ∷ d)) ∷ cs) x r n h =
+started_short ((y ∷ (z ∷ d)) ∷ cs) x r n h =
     ap stitched (kept_long y z d cs) ∙ go (position_eq x y) refl (ap (λ b. if b then stitched_onto (x ∷ (z ∷ d)) cs else None) (sym (meets_at x [] y (z ∷ d))) ∙ h)
   where
     go : (b : Bool) → position_eq x y ≡ b → (if b then stitched_onto (x ∷ (z ∷ d)) cs else None) ≡ Some r → stitched_onto (y ∷ (z ∷ d)) (keep long cs) ≡ Some r
@@ -161,7 +161,7 @@ begun_short ((y ∷ (z ∷ d)) ∷ cs) x r n h =
 stitched_long : (cs : List (List Pos)) (r : List Pos) → 1 < length (once r) → stitched cs ≡ Some r → stitched (keep long cs) ≡ Some r
 stitched_long [] r n h = h
 stitched_long ([] ∷ cs) r n h = stitched_long cs r n h
-stitched_long ((y ∷ []) ∷ cs) r n h = begun_short cs y r n h
+stitched_long ((y ∷ []) ∷ cs) r n h = started_short cs y r n h
 stitched_long ((y ∷ (z ∷ d)) ∷ cs) r n h = ap stitched (kept_long y z d cs) ∙ without_short cs y (z ∷ d) r h
 
 -- ---- used arcs

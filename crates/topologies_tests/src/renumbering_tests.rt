@@ -2,7 +2,7 @@
 //! features, ascend. The features tie by id and properties, and differ in their positions alone.
 ghost use Rattle.topo.specs.Features.{HasFeature};
 ghost use Rattle.topo.specs.GeometryOrder.Noded.{AreNoded};
-ghost use Rattle.topo.specs.GeometryOrder.Noted.{IsNotedFor};
+ghost use Rattle.topo.specs.GeometryOrder.Noted.{IsRecordedFor};
 ghost use Rattle.topo.specs.GeometryOrder.{HaveFeatures};
 
 use chains::ArcTable;
@@ -80,10 +80,10 @@ fn are_in_order(
     other: &Geom,
 ) -> Result<bool, Fail>
     requires noded { AreNoded arcs.now.arcs }
-    requires noted { IsNotedFor arcs.now.arcs order.old }
+    requires noted { IsRecordedFor arcs.now.arcs order.old }
     requires there { HasFeature arcs.now.arcs geometry.now }
     requires other_there { HasFeature arcs.now.arcs other.now }
-    ensures { IsNotedFor arcs.now.arcs order.new }
+    ensures { IsRecordedFor arcs.now.arcs order.new }
 {
     if !order.order(alloc, arcs, geometry, other)?.is_lt() {
         return Ok(false);
@@ -103,10 +103,10 @@ fn comes_first(
     others: &[Geom],
 ) -> Result<bool, Fail>
     requires noded { AreNoded arcs.now.arcs }
-    requires noted { IsNotedFor arcs.now.arcs order.old }
+    requires noted { IsRecordedFor arcs.now.arcs order.old }
     requires there { HasFeature arcs.now.arcs geometry.now }
     requires others_there { HaveFeatures arcs.now.arcs others.now }
-    ensures { IsNotedFor arcs.now.arcs order.new }
+    ensures { IsRecordedFor arcs.now.arcs order.new }
 {
     for other in others {
         if !are_in_order(alloc, arcs, order, geometry, other)? {

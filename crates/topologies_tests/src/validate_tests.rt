@@ -7,7 +7,7 @@ use std::test::Fail;
 use validate::{
     ArcsUsed, add_line_ends, ends_meet, free_loops, is_noded, is_valid_ring, line_run, run,
 };
-use worked_maps::{Places, boxed_some, has_arcs, is_at, lists, positions, refs_of, rows, stand_at};
+use worked_maps::{Places, boxed_some, has_arcs, is_at, lists, positions, refs_of, rows, are_at};
 
 /// Which arcs are marked as free loops; where a mark is missing, it is not set.
 type Marks = &'static [bool];
@@ -90,7 +90,7 @@ fn stand(alloc: Global, arcs: Arcs, free: Marks, expected: bool) -> Result<bool,
 }
 
 #[test]
-fn arcs_that_stand_or_do_not(rt: HostRuntime) -> Result<(), Fail> {
+fn valid_and_invalid_arcs(rt: HostRuntime) -> Result<(), Fail> {
     for (title, arcs, free, expected) in ARCS {
         let stand = stand(rt.alloc(), *arcs, *free, *expected)?;
         assert!(rt; stand, "{title}");
@@ -310,7 +310,7 @@ fn line_ends(alloc: Global, arcs: Arcs, lines: &[&[i64]]) -> Result<Vec<Pos>, Fa
 fn ends_of_lines(rt: HostRuntime) -> Result<(), Fail> {
     for (title, arcs, lines, places) in LINE_ENDS {
         let ends = line_ends(rt.alloc(), *arcs, *lines)?;
-        assert!(rt; stand_at(&ends, *places), "{title}");
+        assert!(rt; are_at(&ends, *places), "{title}");
     }
     Ok(())
 }

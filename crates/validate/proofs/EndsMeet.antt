@@ -20,7 +20,7 @@ use Rattle.validate.specs.ArcEnds.{EndsMeet, again, both_ends}
 use Rattle.validate.specs.EndTests.{both_are, each_ends, ends_are}
 use Rattle.validate.specs.declared.end_tests.EndsHaveToBe.TheVariants.{Among}
 use Rattle.validate.proofs.Steps.{all_from, all_has}
-use Rattle.validate.proofs.Threes.{count, count_again, count_has, count_moved, has_count, three_told, up_again}
+use Rattle.validate.proofs.Threes.{count, count_again, count_has, count_moved, has_count, three_means, up_again}
 
 ends_in : (meeting c : List Pos) → both_are Among meeting c ≡ true → (v : Pos) → EndOf v c → Has v meeting
 ends_in meeting [] e v h = absurd h
@@ -47,20 +47,20 @@ module _ (t : Arcs) (lines ends sorted meeting : List Pos) (made : ends ≡ gath
         | inl k ↦
             let two : 2 ≤ count v (again sorted) = (count_again v (again sorted) (up_again sorted rises) 0).0 (has_count v (again (again sorted)) k) in
             let three : 3 ≤ count v sorted = (count_again v sorted rises 1).0 two in
-            inr ((three_told v t.arcs).0 (omega (arith, three, counted v)))
+            inr ((three_means v t.arcs).0 (omega (arith, three, counted v)))
         | inr k ↦ inl k
       ]
 
   from : (v : Pos) → Has v lines ⊎ ThreeBegin t.arcs v → Has v meeting
   from v (inl h) = Has-permutation (again (again sorted) ++ lines) meeting v all (Has-append_right v (again (again sorted)) lines h)
   from v (inr h) =
-      let three : 3 ≤ count v (gathered both_ends t.arcs) = (three_told v t.arcs).1 h in
+      let three : 3 ≤ count v (gathered both_ends t.arcs) = (three_means v t.arcs).1 h in
       let two : 2 ≤ count v (again sorted) = (count_again v sorted rises 1).1 (omega (arith, three, counted v)) in
       let one : 1 ≤ count v (again (again sorted)) = (count_again v (again sorted) (up_again sorted rises) 0).1 two in
       Has-permutation (again (again sorted) ++ lines) meeting v all (Has-append_left v (again (again sorted)) lines (count_has v (again (again sorted)) one))
 
-  pub meeting_told : (b : Bool) → b ≡ each_ends Among meeting t.loops t.arcs → (b ≡ true) ↔ EndsMeet t.arcs (table_as_map t) lines
-  meeting_told b e = (
+  pub meeting_means : (b : Bool) → b ≡ each_ends Among meeting t.loops t.arcs → (b ≡ true) ↔ EndsMeet t.arcs (table_as_map t) lines
+  meeting_means b e = (
     (λ h l k v i.
         let o = open_has t.loops t.arcs l k in
         let q : both_are Among meeting l ≡ true = sym (ap (λ w. w || both_are Among meeting l) o.1) ∙ all_has (ends_are Among meeting t.loops) t.arcs (sym e ∙ h) l o.0 in

@@ -32,23 +32,23 @@ use Rattle.chains.proofs.Among.{among_has, has_among}
 use Rattle.arcs.proofs.Places.{any_has, has_any}
 use Rattle.validate.specs.Noding.{table_read}
 use Rattle.validate.specs.ArcEnds.{both_ends}
-use Rattle.validate.specs.FreeLoops.{AreLineEnds, ends_once, goes_free, stands_once}
+use Rattle.validate.specs.FreeLoops.{AreLineEnds, ends_once, goes_free, occurs_once}
 use Rattle.validate.proofs.NodedArcs.{closed_closes}
-use Rattle.validate.proofs.Threes.{count, count-append, count_none, has_count, three_told}
+use Rattle.validate.proofs.Threes.{count, count-append, count_none, has_count, three_means}
 
 -- what stands once is counted once
 absent : (v : Pos) (l : List Pos) → not (among l v) ≡ true → count v l ≡ 0
 absent v l e = count_none v l (λ h. let k : false ≡ true = sym (ap not (has_among l v h)) ∙ e in cc)
 
-once_count : (v : Pos) (l : List Pos) → stands_once l v ≡ true → count v l ≡ 1
+once_count : (v : Pos) (l : List Pos) → occurs_once l v ≡ true → count v l ≡ 1
 once_count v [] e = absurd cc
 once_count v (x ∷ l) e = go (position_eq v x) e (once_count v l)
   where
-    go : (b : Bool) → cond b (not (among l v)) (stands_once l v) ≡ true → (stands_once l v ≡ true → count v l ≡ 1) → cond b (suc (count v l)) (count v l) ≡ 1
+    go : (b : Bool) → cond b (not (among l v)) (occurs_once l v) ≡ true → (occurs_once l v ≡ true → count v l ≡ 1) → cond b (suc (count v l)) (count v l) ≡ 1
     go true e ih = let n : count v l ≡ 0 = absent v l e in omega (arith, n)
     go false e ih = ih e
 
-count_once : (v : Pos) (l : List Pos) → count v l ≡ 1 → stands_once l v ≡ true
+count_once : (v : Pos) (l : List Pos) → count v l ≡ 1 → occurs_once l v ≡ true
 count_once v [] e = absurd (omega (arith, e))
 count_once v (x ∷ l) e = go (position_eq v x) e (count_once v l)
   where
@@ -56,7 +56,7 @@ count_once v (x ∷ l) e = go (position_eq v x) e (count_once v l)
     none n true p = absurd (let h : 1 ≤ count v l = has_count v l (among_has l v p) in omega (arith, n, h))
     none n false p = refl
 
-    go : (b : Bool) → cond b (suc (count v l)) (count v l) ≡ 1 → (count v l ≡ 1 → stands_once l v ≡ true) → cond b (not (among l v)) (stands_once l v) ≡ true
+    go : (b : Bool) → cond b (suc (count v l)) (count v l) ≡ 1 → (count v l ≡ 1 → occurs_once l v ≡ true) → cond b (not (among l v)) (occurs_once l v) ≡ true
     go true e ih = let n : count v l ≡ 0 = omega (arith, e) in none n (among l v) refl
     go false e ih = ih e
 
@@ -143,8 +143,8 @@ yes_marks f c (d ∷ arcs) h = go (f d) refl h (yes_marks f c arcs)
     go false p k ih = ih k
 
 module _ (g : Geometry Pos) (sg : IsSound g) (arcs : List (List Pos)) (all : AreArcsOf position_cmp g arcs) (line_ends : List Pos) (are : AreLineEnds line_ends g) where
-  abbrev noted : List Pos
-  noted = line_ends ++ gathered ends_once arcs
+  abbrev recorded : List Pos
+  recorded = line_ends ++ gathered ends_once arcs
 
   -- an arc that comes to a free loop's seam is the loop
   seam_of : (x : Pos) (w : List Pos) → Has (x ∷ w) arcs → ¬ JunctionOf g x → (d : List Pos) → Has d arcs → Has x d → d ≡ x ∷ w
@@ -167,34 +167,34 @@ module _ (g : Geometry Pos) (sg : IsSound g) (arcs : List (List Pos)) (all : Are
           saturated (SegmentOf g) (JunctionOf g) (AtMost position_cmp) (SegmentOf-flip g sg position_dec) (two_segments_of g sg position_dec)
           (at_most_same position_cmp position_total position_same) y s c x z k nj m
 
-  free_yes : (c : List Pos) → Has c arcs → goes_free noted c ≡ true → Free (JunctionOf g) c
+  free_yes : (c : List Pos) → Has c arcs → goes_free recorded c ≡ true → Free (JunctionOf g) c
   free_yes [] h e = absurd cc
   free_yes (x ∷ r) h e =
-      let t = both_true (is_closed position_cmp (x ∷ r)) (stands_once noted x) e in
-      let n : count x noted ≡ 1 = once_count x noted t.1 in
-      let m : count x noted ≡ count x line_ends + count x (gathered ends_once arcs) = count-append x line_ends (gathered ends_once arcs) in
+      let t = both_true (is_closed position_cmp (x ∷ r)) (occurs_once recorded x) e in
+      let n : count x recorded ≡ 1 = once_count x recorded t.1 in
+      let m : count x recorded ≡ count x line_ends + count x (gathered ends_once arcs) = count-append x line_ends (gathered ends_once arcs) in
       let own : 1 ≤ count x (gathered ends_once arcs) = has_count x (gathered ends_once arcs) (Has-gathered ends_once arcs (x ∷ r) x h (inl refl)) in
       elim (kind position_cmp position_total position_same position_dec g sg arcs all (x ∷ r) h) [
         | inl o ↦ absurd (not_open o n m own)
         | inr q ↦ subst (Free (JunctionOf g)) (sym q.1) q.2.1
       ]
     where
-      not_open : OpenArc g arcs (x ∷ r) → count x noted ≡ 1 → count x noted ≡ count x line_ends + count x (gathered ends_once arcs) → 1 ≤ count x (gathered ends_once arcs) → ⊥
+      not_open : OpenArc g arcs (x ∷ r) → count x recorded ≡ 1 → count x recorded ≡ count x line_ends + count x (gathered ends_once arcs) → 1 ≤ count x (gathered ends_once arcs) → ⊥
       not_open o n m own =
           let line : IsLineOf (arcs_as_map position_cmp g arcs) (x ∷ r) =
           (as_map_alone position_cmp position_total position_same position_dec g sg arcs all).open_left (x ∷ r) o in
           elim (ends position_cmp position_total position_same position_dec g sg arcs all (x ∷ r) line x (inl refl)) [
             | inl k ↦ (let h : 1 ≤ count x line_ends = has_count x line_ends ((are x).1 k) in omega (arith, n, m, own, h))
-            | inr k ↦ (let h : 3 ≤ count x (gathered both_ends arcs) = (three_told x arcs).1 k in omega (arith, n, m, h, all_twice x arcs))
+            | inr k ↦ (let h : 3 ≤ count x (gathered both_ends arcs) = (three_means x arcs).1 k in omega (arith, n, m, h, all_twice x arcs))
           ]
 
-  free_back : (c : List Pos) → Has c arcs → Free (JunctionOf g) c → goes_free noted c ≡ true
+  free_back : (c : List Pos) → Has c arcs → Free (JunctionOf g) c → goes_free recorded c ≡ true
   free_back c h f = elim (kind position_cmp position_total position_same position_dec g sg arcs all c h) [
     | inl o ↦ absurd (o.1 f)
-    | inr q ↦ subst (λ w. goes_free noted w ≡ true) (sym q.1) (loop q.0 q.2.0 q.2.1)
+    | inr q ↦ subst (λ w. goes_free recorded w ≡ true) (sym q.1) (loop q.0 q.2.0 q.2.1)
   ]
     where
-      loop : (q : List Pos) → Has (closed q) arcs → Free (JunctionOf g) (closed q) → goes_free noted (closed q) ≡ true
+      loop : (q : List Pos) → Has (closed q) arcs → Free (JunctionOf g) (closed q) → goes_free recorded (closed q) ≡ true
       loop [] h f = absurd (all.arcs_only [] h).chain
       loop (x ∷ l) h f =
           let none : count x line_ends ≡ 0 = count_none x line_ends (λ k. f x (inl refl) (inl ((are x).0 k))) in
@@ -205,19 +205,19 @@ module _ (g : Geometry Pos) (sg : IsSound g) (arcs : List (List Pos)) (all : Are
           only_one x (closed (x ∷ l)) arcs
           (ascends_distinct (slice_cmp position_cmp) (less_self (slice_cmp position_cmp) (lists_total position_total) (slice_cmp-IsAntisymmetric position_same)) arcs all.sorted)
           h own (λ d i k. seam_of x (l ++ (x ∷ [])) h (f x (inl refl)) d i (has_end d (once_end x d k))) in
-          both_intro (is_closed position_cmp (closed (x ∷ l))) (stands_once noted x) shut
-          (count_once x noted (count-append x line_ends (gathered ends_once arcs) ∙ (let s : count x line_ends + count x (gathered ends_once arcs) ≡ 1 = omega (arith, none, one) in s)))
+          both_intro (is_closed position_cmp (closed (x ∷ l))) (occurs_once recorded x) shut
+          (count_once x recorded (count-append x line_ends (gathered ends_once arcs) ∙ (let s : count x line_ends + count x (gathered ends_once arcs) ≡ 1 = omega (arith, none, one) in s)))
         where
           has_end : (d : List Pos) → EndOf x d → Has x d
           has_end [] e = absurd e
           has_end (y ∷ s) e = end_has x y s e
 
-  told : (c : List Pos) → Has c arcs → Tells (is_loop (marked arcs (map (goes_free noted) arcs)) c) (Free (JunctionOf g) c)
-  told c h = record {
-    yes = λ e. free_yes c h (yes_marks (goes_free noted) c arcs (any_has c (marked arcs (map (goes_free noted) arcs)) e));
+  meant : (c : List Pos) → Has c arcs → Tells (is_loop (marked arcs (map (goes_free recorded) arcs)) c) (Free (JunctionOf g) c)
+  meant c h = record {
+    yes = λ e. free_yes c h (yes_marks (goes_free recorded) c arcs (any_has c (marked arcs (map (goes_free recorded) arcs)) e));
     no = λ e f.
-        let k : is_loop (marked arcs (map (goes_free noted) arcs)) c ≡ true =
-        has_any c (marked arcs (map (goes_free noted) arcs)) (marks_yes (goes_free noted) c arcs h (free_back c h f)) in
+        let k : is_loop (marked arcs (map (goes_free recorded) arcs)) c ≡ true =
+        has_any c (marked arcs (map (goes_free recorded) arcs)) (marks_yes (goes_free recorded) c arcs h (free_back c h f)) in
         let m : true ≡ false = sym k ∙ e in cc;
   }
 
@@ -225,6 +225,6 @@ module _ (g : Geometry Pos) (sg : IsSound g) (arcs : List (List Pos)) (all : Are
   pub marks_table : (marks : List Bool) → marks ≡ map (goes_free (line_ends ++ gathered ends_once arcs)) arcs → IsTableOf g (table_read arcs marks)
   marks_table marks same = subst (λ w. IsTableOf g (table_read arcs w)) (sym same) (record {
     arcs = all;
-    free = λ n c e. subst (λ w. Tells (is_loop_if (marked arcs (map (goes_free noted) arcs)) w) (Free (JunctionOf g) c)) (sym e) (told c (get_has arcs n c e));
+    free = λ n c e. subst (λ w. Tells (is_loop_if (marked arcs (map (goes_free recorded) arcs)) w) (Free (JunctionOf g) c)) (sym e) (meant c (get_has arcs n c e));
     once = segments_once position_cmp position_total position_same position_dec g sg arcs all;
   })

@@ -21,10 +21,10 @@ use Rattle.validate.specs.ArcEnds.{from_to, line_ends}
 use Rattle.arcs.specs.Ends.{ends_along}
 use Rattle.validate.specs.Chaining.{run_from}
 use Rattle.validate.specs.RingStarts.{starts_least}
-use Rattle.arcs.proofs.SetMarks.{once_told, told_once}
+use Rattle.arcs.proofs.SetMarks.{once_means, if_once}
 use Rattle.arcs.proofs.EndsAlong.{run_ends}
 use Rattle.validate.proofs.ChainedLists.{runs_from, starts_there}
-use Rattle.validate.proofs.Starting.{least_told, told_least}
+use Rattle.validate.proofs.Starting.{least_means, if_least}
 
 -- what runs uses arcs that there are
 pub runs_within : {V : Type 0} (arcs : List (List V)) (v : V) (us : List ArcRef) (w : V) → Runs arcs v us w → (k : ℕ) → Uses k us → k < length arcs
@@ -55,8 +55,8 @@ run_line_ends arcs (a ∷ us) v w n h =
     λ i. from_to (run_ends arcs a v h.0 h.1 i) (t.1 i)
 
 -- a list that ends where it begins
-pub goes_told : (arcs : List (List Pos)) (us : List ArcRef) (v w : Pos) (b : Bool) → Runs arcs v us w → ¬ (us ≡ []) → b ≡ position_eq v w → (b ≡ true) ↔ GoesRound arcs us
-goes_told arcs us v w b h n e = (
+pub goes_means : (arcs : List (List Pos)) (us : List ArcRef) (v w : Pos) (b : Bool) → Runs arcs v us w → ¬ (us ≡ []) → b ≡ position_eq v w → (b ≡ true) ↔ GoesRound arcs us
+goes_means arcs us v w b h n e = (
   (λ t. (n, v, subst (λ x. Runs arcs v us x) (sym (position_true v w (sym e ∙ t))) h)),
   (λ (m, u, k).
       let t = one_run arcs us n v w u u h k in
@@ -88,17 +88,17 @@ module _ (t : Arcs) where
 -- what is told of a line's list, in the code's order
 module _ (t : Arcs) (n : ℕ) (size : n ≡ length t.arcs) (us : List ArcRef) where
   pub line_once : IsValidLine t.arcs (table_as_map t) us → each_unmarked (replicate n false) us ≡ true
-  line_once k = once_told n us k.once (λ i u. subst (λ w. i < w) (sym size) (runs_within t.arcs k.runs.0 us k.runs.1 k.runs.2 i u))
+  line_once k = once_means n us k.once (λ i u. subst (λ w. i < w) (sym size) (runs_within t.arcs k.runs.0 us k.runs.1 k.runs.2 i u))
 
-  pub line_told : (v w : Pos) (b : Bool) → each_unmarked (replicate n false) us ≡ true → ¬ (us ≡ []) → Runs t.arcs v us w → b ≡ none_free t us →
+  pub line_says : (v w : Pos) (b : Bool) → each_unmarked (replicate n false) us ≡ true → ¬ (us ≡ []) → Runs t.arcs v us w → b ≡ none_free t us →
       (b ≡ true) ↔ IsValidLine t.arcs (table_as_map t) us
-  line_told v w b e some h f = (
-    (λ k. record { some = some; runs = (v, w, h); once = told_once n us e; no_free = none_free_open t us (sym f ∙ k) }),
+  line_says v w b e some h f = (
+    (λ k. record { some = some; runs = (v, w, h); once = if_once n us e; no_free = none_free_open t us (sym f ∙ k) }),
     (λ k. f ∙ open_none_free t us k.no_free),
   )
 
   pub ring_once : IsValidRing position_cmp t.arcs us → each_unmarked (replicate n false) us ≡ true
-  ring_once k = once_told n us k.once (λ i u. subst (λ w. i < w) (sym size) (runs_within t.arcs k.round.0 us k.round.0 k.round.1 i u))
+  ring_once k = once_means n us k.once (λ i u. subst (λ w. i < w) (sym size) (runs_within t.arcs k.round.0 us k.round.0 k.round.1 i u))
 
   some_least : (us : List ArcRef) → BeginsLeast position_cmp t.arcs us → ¬ (us ≡ [])
   some_least [] h e = h
@@ -107,9 +107,9 @@ module _ (t : Arcs) (n : ℕ) (size : n ≡ length t.arcs) (us : List ArcRef) wh
   pub ring_goes : IsValidRing position_cmp t.arcs us → GoesRound t.arcs us
   ring_goes k = (some_least us k.least, k.round.0, k.round.1)
 
-  pub ring_told : (b : Bool) → each_unmarked (replicate n false) us ≡ true → GoesRound t.arcs us → b ≡ starts_least t.arcs us →
+  pub ring_says : (b : Bool) → each_unmarked (replicate n false) us ≡ true → GoesRound t.arcs us → b ≡ starts_least t.arcs us →
       (b ≡ true) ↔ IsValidRing position_cmp t.arcs us
-  ring_told b e round f = (
-    (λ k. record { round = (round.1, round.2); once = told_once n us e; least = least_told t.arcs us (sym f ∙ k) }),
-    (λ k. f ∙ told_least t.arcs us k.least),
+  ring_says b e round f = (
+    (λ k. record { round = (round.1, round.2); once = if_once n us e; least = least_means t.arcs us (sym f ∙ k) }),
+    (λ k. f ∙ if_least t.arcs us k.least),
   )

@@ -37,7 +37,7 @@ use Rattle.chains.specs.OfArcs.{table_as_map}
 use Rattle.arcs.specs.Table.{IsTableOf, is_loop, is_loop_if}
 use Rattle.arcs.specs.Stored.{rises}
 use Rattle.chains.proofs.Among.{among_has, has_among}
-use Rattle.arcs.proofs.ArcsInOrder.{sorted_told}
+use Rattle.arcs.proofs.ArcsInOrder.{sorted_means}
 use Rattle.chains.proofs.TablesAsMap.{has_loop, has_open, loop_has, open_has}
 use Rattle.validate.specs.Noding.{AreInOrder, arc_inside, begins_least, each_forward, arcs_are_valid, is_forward, none_before, is_valid_arc}
 use Rattle.validate.specs.EndTests.{both_are, each_ends, ends_are}
@@ -65,19 +65,19 @@ less_forward : (c : List Pos) → list_cmp c (reverse c) ≡ Less → is_forward
 less_forward c e = ap is_gt (less_back list_cmp (lists_total position_total) (slice_cmp-IsAntisymmetric position_same) c (reverse c) e)
 
 -- what is told of the order of all arcs
-pub order_told : (arcs : List (List Pos)) (b d : Bool) → b ≡ rises arcs → d ≡ each_forward arcs → b ≡ true → (d ≡ true) ↔ AreInOrder arcs
-order_told arcs b d rising forward e = (
+pub order_means : (arcs : List (List Pos)) (b d : Bool) → b ≡ rises arcs → d ≡ each_forward arcs → b ≡ true → (d ≡ true) ↔ AreInOrder arcs
+order_means arcs b d rising forward e = (
   (λ h. record {
-    sorted = (sorted_told arcs b rising).0 e;
+    sorted = (sorted_means arcs b rising).0 e;
     forward = λ c i. forward_less c (all_has is_forward arcs (sym forward ∙ h) c i);
   }),
   (λ o. forward ∙ all_from is_forward arcs (λ c i. less_forward c (o.forward c i))),
 )
 
-pub disorder_told : (arcs : List (List Pos)) (b : Bool) → b ≡ rises arcs → b ≡ false → (b ≡ true) ↔ AreInOrder arcs
-disorder_told arcs b rising e = (
+pub disorder_means : (arcs : List (List Pos)) (b : Bool) → b ≡ rises arcs → b ≡ false → (b ≡ true) ↔ AreInOrder arcs
+disorder_means arcs b rising e = (
   (λ h. let no : true ≡ false = sym h ∙ e in absurd cc),
-  (λ o. (sorted_told arcs b rising).1 o.sorted),
+  (λ o. (sorted_means arcs b rising).1 o.sorted),
 )
 
 -- it has two vertices or more, so, closed, it is the ring that it goes round, closed
@@ -263,8 +263,8 @@ module _ (t : Arcs) where
     pub map_sound : IsSound m
     map_sound = (valid_arcs_are_the_maps position_cmp order t.arcs m stand).0
 
-    told : (c : List Pos) → Has c t.arcs → Tells (free c) (Free (JunctionOf m) c)
-    told c h = record {
+    meant : (c : List Pos) → Has c t.arcs → Tells (free c) (Free (JunctionOf m) c)
+    meant c h = record {
       yes = λ f. elim (st.parted.each c h) [
         | inl k ↦ absurd (let q : true ≡ false = sym f ∙ (open_has t.loops t.arcs c k).1 in cc)
         | inr k ↦ subst (Free (JunctionOf m)) (sym k.1) (round k.0 k.2)
@@ -286,6 +286,6 @@ module _ (t : Arcs) where
         let all = valid_arcs_are_the_maps position_cmp order t.arcs m stand in
         record {
           arcs = all.1;
-          free = λ n c e. subst (λ w. Tells (is_loop_if t.loops w) (Free (JunctionOf m) c)) (sym e) (told c (get_has t.arcs n c e));
+          free = λ n c e. subst (λ w. Tells (is_loop_if t.loops w) (Free (JunctionOf m) c)) (sym e) (meant c (get_has t.arcs n c e));
           once = all.2;
         }

@@ -14,7 +14,7 @@ use Rattle.lines.specs.Positions.{position_same}
 use Rattle.lines.proofs.Positions.{position_refl}
 use Rattle.arcs.specs.Among.{among}
 use Rattle.lines.proofs.Dropping.{drop_item}
-use Rattle.validate.specs.FreeLoops.{goes_free, stands_once}
+use Rattle.validate.specs.FreeLoops.{goes_free, occurs_once}
 
 abbrev one : Pos → Pos → ℕ
 one v x = cond (position_eq v x) 1 0
@@ -37,17 +37,17 @@ among_counted v (x ∷ l) =
     go true n e = let k : 1 + n ≡ suc n = omega arith in sym (ap is_none k)
     go false n e = let k : 0 + n ≡ n = omega arith in e ∙ sym (ap is_none k)
 
-once_counted : (v : Pos) (l : List Pos) → stands_once l v ≡ is_one (sum_by (one v) l)
+once_counted : (v : Pos) (l : List Pos) → occurs_once l v ≡ is_one (sum_by (one v) l)
 once_counted v [] = refl
 once_counted v (x ∷ l) =
     go (position_eq v x) (sum_by (one v) l) (among_counted v l) (once_counted v l)
     ∙ ap is_one (sym (sum_by-cons (one v) x l))
   where
-    go : (b : Bool) (n : ℕ) → not (among l v) ≡ is_none n → stands_once l v ≡ is_one n → cond b (not (among l v)) (stands_once l v) ≡ is_one (cond b 1 0 + n)
+    go : (b : Bool) (n : ℕ) → not (among l v) ≡ is_none n → occurs_once l v ≡ is_one n → cond b (not (among l v)) (occurs_once l v) ≡ is_one (cond b 1 0 + n)
     go true n e f = let k : 1 + n ≡ suc n = omega arith in e ∙ sym (ap is_one k)
     go false n e f = let k : 0 + n ≡ n = omega arith in f ∙ sym (ap is_one k)
 
-once_moved : (xs ys : List Pos) → IsPermutation xs ys → (v : Pos) → stands_once ys v ≡ stands_once xs v
+once_moved : (xs ys : List Pos) → IsPermutation xs ys → (v : Pos) → occurs_once ys v ≡ occurs_once xs v
 once_moved xs ys p v = once_counted v ys ∙ ap is_one (sum_by-IsPermutation (one v) xs ys p) ∙ sym (once_counted v xs)
 
 -- the order of the ends does not matter
@@ -68,21 +68,21 @@ among_behind (x ∷ a) b v = ap (λ w. position_eq v x || w) (among_behind a b v
     go false = refl
 
 -- a vertex at a place stands there alone where it is neither before nor behind
-pub once_between : (a b : List Pos) (v : Pos) → stands_once (a ++ (v ∷ b)) v ≡ (not (among a v) && not (among b v))
-once_between [] b v = ap (λ w. cond w (not (among b v)) (stands_once b v)) (position_refl v)
+pub once_between : (a b : List Pos) (v : Pos) → occurs_once (a ++ (v ∷ b)) v ≡ (not (among a v) && not (among b v))
+once_between [] b v = ap (λ w. cond w (not (among b v)) (occurs_once b v)) (position_refl v)
 once_between (x ∷ a) b v = go (position_eq v x) (once_between a b v) (among_behind a b v)
   where
-    go : (t : Bool) → stands_once (a ++ (v ∷ b)) v ≡ (not (among a v) && not (among b v)) → among (a ++ (v ∷ b)) v ≡ true →
-        cond t (not (among (a ++ (v ∷ b)) v)) (stands_once (a ++ (v ∷ b)) v) ≡ (not (t || among a v) && not (among b v))
+    go : (t : Bool) → occurs_once (a ++ (v ∷ b)) v ≡ (not (among a v) && not (among b v)) → among (a ++ (v ∷ b)) v ≡ true →
+        cond t (not (among (a ++ (v ∷ b)) v)) (occurs_once (a ++ (v ∷ b)) v) ≡ (not (t || among a v) && not (among b v))
     go true e f = ap not f
     go false e f = e
 
 -- what is nowhere stands at no one place
-pub never_once : (l : List Pos) (v : Pos) → among l v ≡ false → stands_once l v ≡ false
+pub never_once : (l : List Pos) (v : Pos) → among l v ≡ false → occurs_once l v ≡ false
 never_once [] v e = refl
 never_once (x ∷ l) v e = go (position_eq v x) e (never_once l v)
   where
-    go : (t : Bool) → (t || among l v) ≡ false → (among l v ≡ false → stands_once l v ≡ false) → cond t (not (among l v)) (stands_once l v) ≡ false
+    go : (t : Bool) → (t || among l v) ≡ false → (among l v ≡ false → occurs_once l v ≡ false) → cond t (not (among l v)) (occurs_once l v) ≡ false
     go true e f = absurd cc
     go false e f = f e
 
@@ -100,13 +100,13 @@ drop_all (x ∷ l) (suc n) h = drop_all l n (omega (arith, h))
 
 -- a vertex at a place of a list, as the code looks for it in both parts
 pub once_at : (l : List Pos) (i : ℕ) (v : Pos) → i < length l → ((d : Pos) → position_cmp (get_or l i d) v ≡ Equal) →
-    stands_once l v ≡ (not (among (take i l) v) && not (among (take (length l - (i + 1)) (drop (i + 1) l)) v))
+    occurs_once l v ≡ (not (among (take i l) v) && not (among (take (length l - (i + 1)) (drop (i + 1) l)) v))
 once_at l i v h e =
     let p : v ≡ get_or l i v = sym (position_same (get_or l i v) v (e v)) in
     let q : l ≡ take i l ++ (v ∷ drop (i + 1) l) = sym (take-append-drop i l) ∙ ap (λ w. take i l ++ w) (drop_item l i v h p) in
     let n : length (drop (i + 1) l) ≡ length l - (i + 1) = length-drop (i + 1) l in
     let r : take (length l - (i + 1)) (drop (i + 1) l) ≡ drop (i + 1) l = take_all (drop (i + 1) l) (length l - (i + 1)) (omega (arith, n)) in
-    ap (λ w. stands_once w v) q
+    ap (λ w. occurs_once w v) q
     ∙ once_between (take i l) (drop (i + 1) l) v
     ∙ ap (λ w. not (among (take i l) v) && not (among w v)) (sym r)
 

@@ -75,8 +75,8 @@ no_before v w y z h k = go (position_cmp v y) refl (of_most v y h)
     go Greater e f = refl
 
 module _ (arcs : List (List Pos)) (y z : Pos) where
-  starts_told : (us : List ArcRef) → none_starts arcs (step y z) us ≡ true → StartsLeast position_cmp arcs y z us
-  starts_told us e = record {
+  starts_means : (us : List ArcRef) → none_starts arcs (step y z) us ≡ true → StartsLeast position_cmp arcs y z us
+  starts_means us e = record {
     first = λ b v w s h f. (each us e b v w s h f).0;
     second = λ b v w s h f. (each us e b v w s h f).1;
   }
@@ -94,11 +94,11 @@ module _ (arcs : List (List Pos)) (y z : Pos) where
               let g : step_along arcs a ≡ Some (step v w) = is_step arcs a v w s (subst (λ c. along arcs c ≡ Some (v ∷ (w ∷ s))) i f) in
               no_less v w y z (sym (ap (λ o. before_if o (step y z)) g) ∙ p)
 
-  told_starts : (us : List ArcRef) → StartsLeast position_cmp arcs y z us → none_starts arcs (step y z) us ≡ true
-  told_starts [] h = refl
-  told_starts (a ∷ us) h =
+  if_starts : (us : List ArcRef) → StartsLeast position_cmp arcs y z us → none_starts arcs (step y z) us ≡ true
+  if_starts [] h = refl
+  if_starts (a ∷ us) h =
       ap (λ b. cond b false (none_starts arcs (step y z) us)) (go (step_along arcs a) refl)
-      ∙ told_starts us (record { first = λ b v w s i f. h.first b v w s (inr i) f; second = λ b v w s i f. h.second b v w s (inr i) f })
+      ∙ if_starts us (record { first = λ b v w s i f. h.first b v w s (inr i) f; second = λ b v w s i f. h.second b v w s (inr i) f })
     where
       go : (o : Option ArcStep) → step_along arcs a ≡ o → before_if o (step y z) ≡ false
       go None e = refl
@@ -106,9 +106,9 @@ module _ (arcs : List (List Pos)) (y z : Pos) where
           let t = step_is arcs a s.from s.to e in
           no_before s.from s.to y z (h.first a s.from s.to t.0 (inl refl) t.1) (h.second a s.from s.to t.0 (inl refl) t.1)
 
-pub least_told : (arcs : List (List Pos)) (us : List ArcRef) → starts_least arcs us ≡ true → BeginsLeast position_cmp arcs us
-least_told arcs [] e = absurd cc
-least_told arcs (a ∷ us) e = go (step_along arcs a) refl e
+pub least_means : (arcs : List (List Pos)) (us : List ArcRef) → starts_least arcs us ≡ true → BeginsLeast position_cmp arcs us
+least_means arcs [] e = absurd cc
+least_means arcs (a ∷ us) e = go (step_along arcs a) refl e
   where
     go : (o : Option ArcStep) → step_along arcs a ≡ o → none_starts_if arcs o us ≡ true → BeginsLeast position_cmp arcs (a ∷ us)
     go None p e = absurd cc
@@ -117,10 +117,10 @@ least_told arcs (a ∷ us) e = go (step_along arcs a) refl e
         let itself : before_if (step_along arcs a) s ≡ false =
         ap (λ o. before_if o s) p
         ∙ no_before s.from s.to s.from s.to (at_most_self position_cmp position_total position_same s.from) (λ f. at_most_self position_cmp position_total position_same s.to) in
-        (s.from, s.to, t.0, t.1, starts_told arcs s.from s.to (a ∷ us) (ap (λ b. cond b false (none_starts arcs s us)) itself ∙ e))
+        (s.from, s.to, t.0, t.1, starts_means arcs s.from s.to (a ∷ us) (ap (λ b. cond b false (none_starts arcs s us)) itself ∙ e))
 
-pub told_least : (arcs : List (List Pos)) (us : List ArcRef) → BeginsLeast position_cmp arcs us → starts_least arcs us ≡ true
-told_least arcs [] h = absurd h
-told_least arcs (a ∷ us) (y, z, q, e, h) =
+pub if_least : (arcs : List (List Pos)) (us : List ArcRef) → BeginsLeast position_cmp arcs us → starts_least arcs us ≡ true
+if_least arcs [] h = absurd h
+if_least arcs (a ∷ us) (y, z, q, e, h) =
     ap (λ o. none_starts_if arcs o us) (is_step arcs a y z q e)
-    ∙ told_starts arcs y z us (record { first = λ b v w s i f. h.first b v w s (inr i) f; second = λ b v w s i f. h.second b v w s (inr i) f })
+    ∙ if_starts arcs y z us (record { first = λ b v w s i f. h.first b v w s (inr i) f; second = λ b v w s i f. h.second b v w s (inr i) f })

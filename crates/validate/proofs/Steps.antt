@@ -74,10 +74,10 @@ open_inside b c front inner x y t e f =
     sym (ap (λ w. cond w (unclosed c) (inner_of c)) t ∙ ap inner_of (e ∙ ap (λ w. w ++ (x ∷ [])) f) ∙ inner_front y x inner)
 
 -- the ends of a list, as the code has them
-pub ends_told : (e : EndsHaveToBe) (sorted l : List Pos) (a b : Pos) → Some a ≡ slice_get l 0 → Some b ≡ slice_get l (length l - 1) →
+pub ends_means : (e : EndsHaveToBe) (sorted l : List Pos) (a b : Pos) → Some a ≡ slice_get l 0 → Some b ≡ slice_get l (length l - 1) →
     both_are e sorted l ≡ (is_as e (among sorted a) && is_as e (among sorted b))
-ends_told e sorted [] a b p q = absurd cc
-ends_told e sorted (x ∷ l) a b p q =
+ends_means e sorted [] a b p q = absurd cc
+ends_means e sorted (x ∷ l) a b p q =
     let k : length (x ∷ l) - 1 ≡ length l = omega arith in
     let f : a ≡ x = cc in
     let m : Some b ≡ Some (last_of x l) = q ∙ ap (slice_get (x ∷ l)) k ∙ last_get x l in

@@ -305,8 +305,8 @@ three_long (x ∷ (y ∷ [])) a b c ha hb hc ab ac bc = absurd (go ha hb hc)
     ]
 three_long (x ∷ (y ∷ (z ∷ l))) a b c ha hb hc ab ac bc = omega arith
 
-pub three_told : (v : Pos) (arcs : List (List Pos)) → (3 ≤ count v (gathered both_ends arcs)) ↔ ThreeBegin arcs v
-three_told v arcs = ((λ h. to (at_all v arcs) (omega (arith, h, all_counted v arcs)) (all_distinct v arcs) (all_begin v arcs)), from)
+pub three_means : (v : Pos) (arcs : List (List Pos)) → (3 ≤ count v (gathered both_ends arcs)) ↔ ThreeBegin arcs v
+three_means v arcs = ((λ h. to (at_all v arcs) (omega (arith, h, all_counted v arcs)) (all_distinct v arcs) (all_begin v arcs)), from)
   where
     to : (l : List ArcRef) → 3 ≤ length l → Distinct l → ((b : ArcRef) → Has b l → BeginsAt arcs v b) → ThreeBegin arcs v
     to [] n d h = absurd (omega (arith, n))

@@ -133,19 +133,19 @@ module _ (t : Arcs) (st : ArcsAreNoded position_cmp t.arcs (table_as_map t)) whe
               let p = partner_back (λ r us. StitchAround t.arcs us r) g.rings rings are.of_rings us h in
               inr (p.0, us, p.1, ring_list us p.0 (ok.each_ring us h) p.2, u)
 
-      told : IsSound g × AreArcsOf position_cmp g t.arcs × Alike a g
-      told = arcs_valid_for_a_map_are_its position_cmp order t.arcs a g stands
+      meant : IsSound g × AreArcsOf position_cmp g t.arcs × Alike a g
+      meant = arcs_valid_for_a_map_are_its position_cmp order t.arcs a g stands
 
       table : IsTableOf g t
       table = record {
-        arcs = told.1;
+        arcs = meant.1;
         free = λ n c e.
             let k : Tells (free_at t n) (Free (JunctionOf a) c) = (is_table t st).free n c e in
             record {
-              yes = λ f v h j. k.yes f v h (told.2.junctions_back v j);
-              no = λ f m. k.no f (λ v h j. m v h (told.2.junctions v j));
+              yes = λ f v h j. k.yes f v h (meant.2.junctions_back v j);
+              no = λ f m. k.no f (λ v h j. m v h (meant.2.junctions v j));
             };
-        once = segments_once position_cmp position_total position_same position_dec g told.0 t.arcs told.1;
+        once = segments_once position_cmp position_total position_same position_dec g meant.0 t.arcs meant.1;
       }
 
       ring_lists : Pairwise (IsRingList position_cmp (JunctionOf g) t.arcs) g.rings rings
@@ -154,13 +154,13 @@ module _ (t : Arcs) (st : ArcsAreNoded position_cmp t.arcs (table_as_map t)) whe
           (λ r us h i s.
           let k = ok.each_ring us i in
           subst (λ w. IsRingList position_cmp (JunctionOf g) t.arcs r w) (turned us s.0 k s.2)
-          (valid_ring_lists_are_the_maps position_cmp order g told.0 t.arcs told.1 r h us (ring_list us r k s)))
+          (valid_ring_lists_are_the_maps position_cmp order g meant.0 t.arcs meant.1 r h us (ring_list us r k s)))
 
 pub lists_make_a_map : law.ListsMakeAMap
 lists_make_a_map t st lines rings ok = a_map t st lines rings ok
 
 pub lists_are_the_maps : law.ListsAreTheMaps
-lists_are_the_maps t st lines rings ok g are = ((told t st lines rings ok g are).0, table t st lines rings ok g are, ring_lists t st lines rings ok g are)
+lists_are_the_maps t st lines rings ok g are = ((meant t st lines rings ok g are).0, table t st lines rings ok g are, ring_lists t st lines rings ok g are)
 
 pub lists_are_read : law.ListsAreRead
 lists_are_read t st us = (

@@ -14,14 +14,14 @@ ends_once [] = []
 ends_once (x ∷ r) = x ∷ cond (is_closed position_cmp (x ∷ r)) [] (last_of x r ∷ [])
 
 -- whether the vertex is at exactly one place
-abbrev pub stands_once : List Pos → Pos → Bool
-stands_once [] v = false
-stands_once (x ∷ l) v = cond (position_eq v x) (not (among l v)) (stands_once l v)
+abbrev pub occurs_once : List Pos → Pos → Bool
+occurs_once [] v = false
+occurs_once (x ∷ l) v = cond (position_eq v x) (not (among l v)) (occurs_once l v)
 
 -- whether the list is closed, and its first vertex occurs once among some ends
 abbrev pub goes_free : List Pos → List Pos → Bool
 goes_free ends [] = false
-goes_free ends (x ∷ r) = is_closed position_cmp (x ∷ r) && stands_once ends x
+goes_free ends (x ∷ r) = is_closed position_cmp (x ∷ r) && occurs_once ends x
 
 -- the vertices are the ends of the map's lines
 abbrev pub AreLineEnds : {V : Type 0} → List V → Geometry V → Type 0

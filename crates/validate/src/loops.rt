@@ -4,7 +4,7 @@ ghost use Rattle.grid.specs.declared.pos.Pos.{Pos};
 ghost use Rattle.lines.specs.Reading as list;
 ghost use Rattle.lines.specs.Turned.{position_cmp};
 ghost use Rattle.validate.specs.Noding.{table_read};
-ghost use Rattle.validate.specs.FreeLoops.{AreLineEnds, ends_once, goes_free, stands_once};
+ghost use Rattle.validate.specs.FreeLoops.{AreLineEnds, ends_once, goes_free, occurs_once};
 ghost use Rattle.std.specs.List.Sorted.{IsSorted};
 ghost use Rattle.std.specs.Prelude.{◌≡◌, ◌++◌, IfOk, OnOk, map as map_list};
 ghost use Rattle.theory.specs.Arcs.{AreArcsOf};
@@ -45,10 +45,10 @@ fn add_all_ends(ends: &mut Vec<Pos>, arcs: &[Items<Pos>]) -> Result<(), AllocErr
 /// Whether a vertex is at exactly one place of a sorted list.
 fn is_once(sorted: &[Pos], vertex: Pos) -> bool
     requires { IsSorted position_cmp sorted.now }
-    ensures { result ≡ stands_once sorted.now vertex }
+    ensures { result ≡ occurs_once sorted.now vertex }
 {
     match sorted.binary_search(&vertex) {
-        Ok(place) => !is_among(&sorted[..place], vertex) && !is_among(&sorted[place + 1..], vertex),
+        Ok(index) => !is_among(&sorted[..index], vertex) && !is_among(&sorted[index + 1..], vertex),
         Err(_) => false,
     }
 }

@@ -2,7 +2,7 @@
 use grid::pos::Pos;
 use lines::items::Items;
 use lines::line::Line;
-use lines::position_filter::{PositionFilter, place_among};
+use lines::position_filter::{PositionFilter, index_among};
 use lines::ring::Ring;
 use lines::shape_fault::ShapeFault;
 use lines::text::JsonText;
@@ -230,7 +230,7 @@ fn bits_of_positions(rt: HostRuntime) -> Result<(), Fail> {
     let dealt = positions(rt.alloc(), &[A, B, C])?;
     let bits = PositionFilter::of(rt.alloc(), dealt.as_slice())?;
     for position in &dealt {
-        assert!(rt; bits.may_hold(*position) && place_among(7, *position) < 7);
+        assert!(rt; bits.may_hold(*position) && index_among(7, *position) < 7);
     }
     Ok(())
 }

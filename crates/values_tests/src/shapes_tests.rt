@@ -261,11 +261,11 @@ fn features(alloc: Global) -> Result<Vec<Feature>, Fail> {
 
 /// Whether a value is less than those after its place, greater than those before it, and equal to that there.
 fn is_of_place<T: Ord>(list: &[T], value: &T, place: usize) -> bool {
-    for (other_place, other) in list.iter().enumerate() {
-        if value.cmp(other) != place.cmp(&other_place) {
+    for (other_index, other) in list.iter().enumerate() {
+        if value.cmp(other) != place.cmp(&other_index) {
             return false;
         }
-        if (value == other) != (place == other_place) {
+        if (value == other) != (place == other_index) {
             return false;
         }
     }

@@ -33,7 +33,7 @@ pub fn is_at(position: &Pos, place: &(i64, i64)) -> bool {
 }
 
 /// Whether positions are those of places.
-pub fn stand_at(positions: &[Pos], places: &[(i64, i64)]) -> bool {
+pub fn are_at(positions: &[Pos], places: &[(i64, i64)]) -> bool {
     for (position, place) in positions.iter().zip(places) {
         if !is_at(position, place) {
             return false;
@@ -44,7 +44,7 @@ pub fn stand_at(positions: &[Pos], places: &[(i64, i64)]) -> bool {
 
 fn is_arc(table: &ArcTable, number: usize, places: Places, free: bool) -> bool {
     match table.arc(number) {
-        Some(positions) => stand_at(positions, places) && table.is_free(number) == free,
+        Some(positions) => are_at(positions, places) && table.is_free(number) == free,
         None => false,
     }
 }

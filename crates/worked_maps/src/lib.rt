@@ -6,7 +6,7 @@ mod comparing;
 mod printed;
 mod tables;
 
-pub use comparing::{are_used, has_arcs, is_at, refs_of, same_arcs, stand_at};
+pub use comparing::{are_used, has_arcs, is_at, refs_of, same_arcs, are_at};
 use grid::{Grid, Pos};
 pub use printed::fault_line;
 use shapes::{Feature, FeatureMap, Id, Items, Line, Props, Ring, Shape};

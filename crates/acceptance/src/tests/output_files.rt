@@ -79,7 +79,7 @@ const ONCE: &[Call] = &[
 ];
 
 #[test]
-fn the_old_file_stands_where_a_call_fails(rt: HostRuntime) -> Result<(), Fail> {
+fn the_old_file_stays_where_a_call_fails(rt: HostRuntime) -> Result<(), Fail> {
     for call in ONCE {
         let ended = end_run(rt.alloc(), BUILD, Some(*call), 0)?;
         assert!(rt; ended.kept_the_old(2), "{call:?}");
@@ -92,7 +92,7 @@ const NO_LAYER: Words = &["feature", "--layer", "q", "out.json", "-o", "squares.
 /// Where the layer is not there the file is made, and taken away again; where that fails too it is left, and the
 /// other stands all the same.
 #[test]
-fn the_old_file_stands_where_the_answer_is_refused(rt: HostRuntime) -> Result<(), Fail> {
+fn the_old_file_stays_where_the_answer_is_refused(rt: HostRuntime) -> Result<(), Fail> {
     for (fails, count) in [(None, 2), (Some(Call::Remove), 3)] {
         let mut disk = Disk::failing(rt.alloc(), fails, 0);
         disk.add("squares.json", OLD)?;

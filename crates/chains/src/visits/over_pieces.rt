@@ -2,7 +2,7 @@
 ghost use Rattle.arcs.specs.Arcs.{Arcs};
 ghost use Rattle.chains.specs.Index.{IsIndexOf};
 ghost use Rattle.chains.specs.ManyTables.{AreTablesOf, IsUnionOfAll, UnmarkedStayWhole, all_as_map, all_marked_visits, arcs_of_all, marked_visits, piece_ends};
-ghost use Rattle.chains.specs.Noted.{visits_noted};
+ghost use Rattle.chains.specs.Noted.{visits_recorded};
 ghost use Rattle.chains.specs.Visits.{HaveSame};
 ghost use Rattle.grid.specs.declared.pos.Pos.{Pos};
 ghost use Rattle.std.specs.Prelude.{◌≡◌, ◌++◌, IfOk, List, OnOk};
@@ -29,7 +29,7 @@ impl<'a> VisitsSeen<'a> {
     /// Notes the ends of an arc, and its other visits where it is marked.
     fn see_piece(&mut self, piece: &'a Piece, marked: bool) -> Result<(), AllocError>
         ensures ends { OnOk result (self.new.ends.items ≡ self.old.ends.items ++ piece_ends piece.now) }
-        ensures visits { OnOk result (HaveSame (visits_noted self.new) (visits_noted self.old ++ marked_visits marked piece.now)) }
+        ensures visits { OnOk result (HaveSame (visits_recorded self.new) (visits_recorded self.old ++ marked_visits marked piece.now)) }
     {
         self.see_arc_ends(piece.chain(), piece.is_free())?;
         if !marked {
@@ -41,7 +41,7 @@ impl<'a> VisitsSeen<'a> {
     /// Notes the ends of arcs, and the other visits of those that are marked.
     fn see_pieces(&mut self, pieces: &'a [Piece], marks: &[bool]) -> Result<(), AllocError>
         ensures ends { OnOk result (self.new.ends.items ≡ self.old.ends.items ++ gathered piece_ends pieces.now) }
-        ensures visits { OnOk result (HaveSame (visits_noted self.new) (visits_noted self.old ++ all_marked_visits marks.now pieces.now)) }
+        ensures visits { OnOk result (HaveSame (visits_recorded self.new) (visits_recorded self.old ++ all_marked_visits marks.now pieces.now)) }
     {
         let mut left = marks;
         for piece in pieces {

@@ -15,7 +15,7 @@ use Rattle.shapes.specs.contracts.shape.IdOrd.TheImpl as id_order
 use Rattle.shapes.specs.contracts.shape.IdOrd.TheImpl.Laws.{total-law}
 use Rattle.shapes.specs.declared.shape.Id.{Id}
 use Rattle.topo.specs.declared.geom.Geom.{Geom}
-use Rattle.compare.specs.Quality.Ids.{count_of, ids_in, is_missing, borrowed_cmp, numbers_of, one_if, stands_again, times}
+use Rattle.compare.specs.Quality.Ids.{count_of, ids_in, is_missing, borrowed_cmp, numbers_of, one_if, occurs_again, times}
 
 id_derived_is : (a b : Id) → id_order.cmp-value.it a b ≡ id_cmp a b
 id_derived_is a b = search rules
@@ -104,7 +104,7 @@ numbers_take p ids n id numbers new all less is passes e h =
     ∙ h
 
 pub again_is : (gs : List Geom) (m : tree.BTreeMap (Bor Id) ℕ) (q : Id) (b : Bool) → times q m ≡ count_of q (ids_in gs) →
-    b ≡ (not (is_missing q) && nat_lt 1 (times q m)) → stands_again (ids_in gs) q ≡ b
+    b ≡ (not (is_missing q) && nat_lt 1 (times q m)) → occurs_again (ids_in gs) q ≡ b
 again_is gs m q b t e = ap (λ n. not (is_missing q) && nat_lt 1 n) (sym t) ∙ sym e
 
 pub small : (m : tree.BTreeMap (Bor Id) ℕ) (q : Id) (gs : List Geom) (n : ℕ) → times q m ≡ count_of q (ids_in (take n gs)) → n < length gs → length gs < 2 ^ 63 →

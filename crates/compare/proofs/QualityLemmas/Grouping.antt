@@ -8,11 +8,11 @@ use Rattle.std.specs.declared.cmp.Ordering.{Ordering}
 use Rattle.std.specs.declared.cmp.Ordering.TheVariants.{Less, Equal, Greater}
 use Rattle.std.specs.Cmp.{IsTotalOrder, int_ranks, then_total, on_total, nat_cmp_total, tied_itself}
 use Rattle.grid.specs.declared.pos.Pos.{Pos}
-use Rattle.lines.specs.ByVertex.{StandByVertex, count_at}
+use Rattle.lines.specs.ByVertex.{AreByVertex, count_at}
 use Rattle.lines.specs.Positions.{position_total, position_same}
 use Rattle.lines.specs.Turned.{position_cmp}
 use Rattle.lines.proofs.Positions.{position_refl}
-use Rattle.lines.proofs.ByVertex.{behind_at, here_at, stand_behind}
+use Rattle.lines.proofs.ByVertex.{behind_at, here_at, are_behind}
 use Rattle.lines.proofs.SortedLists.{Up, up_from_sorted}
 use Rattle.theory.specs.Lists.{Has, gathered}
 use Rattle.theory.proofs.Ascending.{at_most_less}
@@ -31,10 +31,10 @@ not_after Equal s e = refl
 not_after Greater s e = e
 
 -- sorted uses stand by positions
-pub stand : (us : List VertexUse) → IsSorted use_cmp us → StandByVertex (λ u. u.at) us
+pub stand : (us : List VertexUse) → IsSorted use_cmp us → AreByVertex (λ u. u.at) us
 stand us s = go us (up_from_sorted use_cmp use_total us s)
   where
-    go : (l : List VertexUse) → Up use_cmp l → StandByVertex (λ u. u.at) l
+    go : (l : List VertexUse) → Up use_cmp l → AreByVertex (λ u. u.at) l
     go [] u = tt
     go (x ∷ l) u = ((λ y h. not_after (position_cmp x.at y.at) (nat_cmp x.feature y.feature) (u.0 y h)), go l u.1)
 
@@ -45,7 +45,7 @@ pub record Grouped (us left : List VertexUse) (vs : List Vertex) : Type 0 where
 
 -- each vertex lies before all behind it, and before the uses that are left
 pub record Ordered (left : List VertexUse) (vs : List Vertex) : Type 0 where
-  pub stand : StandByVertex (λ u. u.at) left
+  pub stand : AreByVertex (λ u. u.at) left
   pub ascend : Ascend vs
   pub before : (v : Vertex) → Has v vs → (u : VertexUse) → Has u left → position_cmp v.at u.at ≡ Less
 
@@ -119,7 +119,7 @@ module _ (us left others here behind : List VertexUse) (first : VertexUse) (vs n
 
   pub ordered_step : Ordered left vs → Ordered behind new
   ordered_step o = record {
-    stand = stand_behind place here behind (subst (StandByVertex place) (sym both) o.stand);
+    stand = are_behind place here behind (subst (AreByVertex place) (sym both) o.stand);
     ascend = subst Ascend (sym made) (ascend_behind vs v o.ascend (λ w h. comes_before w.at v.at (subst (λ p. position_cmp w.at p ≡ Less) (sym at) (o.before w h first first_left))));
     before = λ w h u i. elim (has_behind vs v w (subst (Has w) made h)) [
       | inl j ↦ o.before w j u (behind_left u i)
@@ -128,9 +128,9 @@ module _ (us left others here behind : List VertexUse) (first : VertexUse) (vs n
   }
     where
       least : (u : VertexUse) → Has u left → is_gt (position_cmp first.at u.at) ≡ false
-      least u h = from_first (subst (StandByVertex place) is o.stand) u (subst (Has u) is h)
+      least u h = from_first (subst (AreByVertex place) is o.stand) u (subst (Has u) is h)
         where
-          from_first : StandByVertex place (first ∷ others) → (u : VertexUse) → Has u (first ∷ others) → is_gt (position_cmp first.at u.at) ≡ false
+          from_first : AreByVertex place (first ∷ others) → (u : VertexUse) → Has u (first ∷ others) → is_gt (position_cmp first.at u.at) ≡ false
           from_first g u (inl e) = subst (λ w. is_gt (position_cmp first.at w.at) ≡ false) (sym e) (ap is_gt (tied_itself position_total first.at))
           from_first g u (inr h) = g.0 u h
 

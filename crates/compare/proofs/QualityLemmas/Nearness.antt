@@ -123,8 +123,8 @@ left_ascends [] (suc k) h = h
 left_ascends (w ∷ l) zero h = h
 left_ascends (w ∷ l) (suc k) h = left_ascends l k h.1
 
-pub left_behind : (v : Vertex) (l : List Vertex) (k : ℕ) → Ascend (v ∷ l) → Ascend (v ∷ drop k l)
-left_behind v l k h = (all_left (Before v) l k h.0, left_ascends l k h.1)
+pub rest_behind : (v : Vertex) (l : List Vertex) (k : ℕ) → Ascend (v ∷ l) → Ascend (v ∷ drop k l)
+rest_behind v l k h = (all_left (Before v) l k h.0, left_ascends l k h.1)
 
 -- ---- past reach in the first direction
 

@@ -67,9 +67,9 @@ map_pairs v [] ys = refl
 map_pairs v (x ∷ xs) ys = ap (λ l. places_at v x ∷ l) (map_pairs v xs ys)
 
 -- the places, with those of one vertex more
-pub noted_more : (n s : ℕ) (v : Vertex) (vs ws : List Vertex) (old new : List (NearPlace × NearPlace)) → vs ≡ v ∷ ws →
+pub recorded_more : (n s : ℕ) (v : Vertex) (vs ws : List Vertex) (old new : List (NearPlace × NearPlace)) → vs ≡ v ∷ ws →
     new ≡ take n (old ++ map (places_at v) (near_to s v ws)) → take n (new ++ map places_of (near_pairs s ws)) ≡ take n (old ++ map places_of (near_pairs s vs))
-noted_more n s v vs ws old new e made =
+recorded_more n s v vs ws old new e made =
     ap (λ l. take n (l ++ map places_of (near_pairs s ws))) made ∙ take_twice n (old ++ map (places_at v) (near_to s v ws)) (map places_of (near_pairs s ws))
     ∙ ap (take n) (append_assoc old (map (places_at v) (near_to s v ws)) (map places_of (near_pairs s ws)))
     ∙ ap (λ l. take n (old ++ l)) (sym (map_pairs v (near_to s v ws) (near_pairs s ws)))

@@ -30,8 +30,8 @@ count_of q [] = 0
 count_of q (i ∷ ids) = one_if (is_eq (id_cmp q i)) + count_of q ids
 
 -- whether it is an id, and occurs in the list more than once
-abbrev pub stands_again : List Id → Id → Bool
-stands_again ids q = not (is_missing q) && nat_lt 1 (count_of q ids)
+abbrev pub occurs_again : List Id → Id → Bool
+occurs_again ids q = not (is_missing q) && nat_lt 1 (count_of q ids)
 
 -- the numbers of the members for which p says yes, the first of which has the number n
 abbrev pub numbers_of : (Id → Bool) → ℕ → List Id → List ℕ

@@ -1,5 +1,5 @@
 //! Ids that are missing, and ids that occur more than once.
-ghost use Rattle.compare.specs.Quality.Ids.{count_of, ids_in, is_missing, numbers_of, one_if, stands_again, times};
+ghost use Rattle.compare.specs.Quality.Ids.{count_of, ids_in, is_missing, numbers_of, one_if, occurs_again, times};
 ghost use Rattle.shapes.specs.Order.{id_cmp};
 ghost use Rattle.shapes.specs.declared.shape.Id as ids;
 ghost use Rattle.std.specs.Ordering.{is_eq};
@@ -73,7 +73,7 @@ pub fn without_id(alloc: Global, geometries: &[Geom]) -> Result<Vec<usize>, Allo
 /// The numbers of the geometries of a layer whose id occurs more than once there, ascending. In a topology's
 /// layer those of one id are side by side.
 pub fn repeated_ids(alloc: Global, geometries: &[Geom]) -> Result<Vec<usize>, AllocError>
-    ensures { IfOk result (λ v. v.items ≡ numbers_of (stands_again (ids_in geometries.now)) 0 (ids_in geometries.now)) }
+    ensures { IfOk result (λ v. v.items ≡ numbers_of (occurs_again (ids_in geometries.now)) 0 (ids_in geometries.now)) }
 {
     let counts = count_ids(alloc, geometries)?;
     let mut numbers = Vec::new(alloc);

@@ -3,7 +3,7 @@ ghost use Rattle.compare.specs.Quality.Found.{place_of as the_place, places_at, 
 ghost use Rattle.compare.specs.Quality.Near.{Ascend, are_near, near_pairs, near_to};
 ghost use Rattle.std.specs.Prelude.{◌≡◌, ◌≤◌, ◌++◌, ◌∷◌, IfOk, OnOk, [], cond, length, map as map_list, take};
 
-use crate::quality::search::left_behind;
+use crate::quality::search::rest_behind;
 use crate::quality::vertex::{Vertex, feature_alone, is_near, is_past};
 use grid::pos::Pos;
 use std::alloc::{AllocError, Global};
@@ -47,7 +47,7 @@ fn count_behind<'a>(steps: u32, one: Vertex<'a>, behind: &[Vertex<'a>]) -> usize
             return count;
         }
         count += one_if_near(steps, one, *next);
-        left = left_behind(steps, one, *next, rest);
+        left = rest_behind(steps, one, *next, rest);
     }
     count
 }
@@ -107,7 +107,7 @@ fn add_near<'a>(
             return Ok(());
         }
         add_if_near(places, steps, one, *next)?;
-        left = left_behind(steps, one, *next, rest);
+        left = rest_behind(steps, one, *next, rest);
     }
     Ok(())
 }

@@ -51,7 +51,7 @@ fn skip_beyond<'s, 'a>(
 
 /// The vertices behind `next` that are left to be looked at: all, or without those that can be passed over where `next` is
 /// not near.
-pub(crate) fn left_behind<'s, 'a>(
+pub(crate) fn rest_behind<'s, 'a>(
     steps: u32,
     one: Vertex<'a>,
     next: Vertex<'a>,

@@ -82,11 +82,11 @@ fn add_body(
 }
 
 /// Puts the geometries of a layer behind those of the layers before it.
-fn add_geometries<'a>(noted: &mut Vec<&'a Geom>, geometries: &'a [Geom]) -> Result<(), AllocError>
-    ensures { OnOk result (borrowed noted.new.items ≡ borrowed noted.old.items ++ geometries.now) }
+fn add_geometries<'a>(recorded: &mut Vec<&'a Geom>, geometries: &'a [Geom]) -> Result<(), AllocError>
+    ensures { OnOk result (borrowed recorded.new.items ≡ borrowed recorded.old.items ++ geometries.now) }
 {
     for geometry in geometries {
-        noted.push(geometry)?;
+        recorded.push(geometry)?;
     }
     Ok(())
 }
@@ -95,11 +95,11 @@ fn add_geometries<'a>(noted: &mut Vec<&'a Geom>, geometries: &'a [Geom]) -> Resu
 fn geometries_in<'a>(alloc: Global, layers: &'a [Layer]) -> Result<Vec<&'a Geom>, AllocError>
     ensures { IfOk result (λ v. borrowed v.items ≡ gathered (λ l. l.geometries) layers.now) }
 {
-    let mut noted = Vec::new(alloc);
+    let mut recorded = Vec::new(alloc);
     for layer in layers {
-        add_geometries(&mut noted, layer.geometries())?;
+        add_geometries(&mut recorded, layer.geometries())?;
     }
-    Ok(noted)
+    Ok(recorded)
 }
 
 /// Which of the geometries have which positions, geometry by geometry.

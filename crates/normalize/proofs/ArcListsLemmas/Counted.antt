@@ -9,7 +9,7 @@ use Rattle.lines.specs.Turned.{position_cmp}
 use Rattle.lines.specs.declared.shape_fault.ShapeFault.{ShapeFault}
 use Rattle.lines.specs.declared.shape_fault.ShapeFault.TheVariants.{NotClosed, Revisit, TooShort}
 use Rattle.lines.proofs.Doubles.{Doubled}
-use Rattle.lines.proofs.Trails.{Repeats, told_repeats}
+use Rattle.lines.proofs.Trails.{Repeats, if_repeats}
 use Rattle.theory.proofs.JunctionTest.{equal-same_vertex, same_vertex-equal}
 use Rattle.theory.proofs.Lists.{Steps-over}
 use Rattle.theory.proofs.Reversing.{beside_same, same_beside}
@@ -184,25 +184,25 @@ module _ (arcs : List (List Pos)) (ss : List ArcSummary) (known : AreSummaries a
 
 -- ---- faults
 
-closed_told : (x w : Pos) (l : List Pos) → last_of x l ≡ w → x ≡ w → is_closed position_cmp (x ∷ l) ≡ true
-closed_told x w l e f = equal-same_vertex position_cmp position_total position_same x (last_of x l) (f ∙ sym e)
+closed_means : (x w : Pos) (l : List Pos) → last_of x l ≡ w → x ≡ w → is_closed position_cmp (x ∷ l) ≡ true
+closed_means x w l e f = equal-same_vertex position_cmp position_total position_same x (last_of x l) (f ∙ sym e)
 
-open_told : (x w : Pos) (l : List Pos) → last_of x l ≡ w → ¬ (x ≡ w) → is_closed position_cmp (x ∷ l) ≡ false
-open_told x w l e n = go (same_vertex position_cmp x (last_of x l)) refl
+open_means : (x w : Pos) (l : List Pos) → last_of x l ≡ w → ¬ (x ≡ w) → is_closed position_cmp (x ∷ l) ≡ false
+open_means x w l e n = go (same_vertex position_cmp x (last_of x l)) refl
   where
     go : (b : Bool) → same_vertex position_cmp x (last_of x l) ≡ b → same_vertex position_cmp x (last_of x l) ≡ false
     go false p = p
     go true p = absurd (n (same_vertex-equal position_cmp position_total position_same x (last_of x l) p ∙ e))
 
-less_told : (m n : ℕ) → m < n → nat_lt m n ≡ true
-less_told m n h = go (nat_lt m n) refl
+less_means : (m n : ℕ) → m < n → nat_lt m n ≡ true
+less_means m n h = go (nat_lt m n) refl
   where
     go : (b : Bool) → nat_lt m n ≡ b → nat_lt m n ≡ true
     go true e = e
     go false e = absurd (let k : n ≤ m = ltb-false m n e in omega (arith, h, k))
 
-not_less_told : (m n : ℕ) → n ≤ m → nat_lt m n ≡ false
-not_less_told m n h = go (nat_lt m n) refl
+not_less_means : (m n : ℕ) → n ≤ m → nat_lt m n ≡ false
+not_less_means m n h = go (nat_lt m n) refl
   where
     go : (b : Bool) → nat_lt m n ≡ b → nat_lt m n ≡ false
     go false e = e
@@ -216,7 +216,7 @@ module _ (v w : Pos) (r : List Pos) (ends : last_of v r ≡ w) (n : ℕ) (count 
   unfolding line_fault
   line_empty h =
       ap (collapsed_line_fault position_cmp) (collapsed_after v r)
-      ∙ go (nat_lt (length (v ∷ after v r)) 2) (less_told (length (v ∷ after v r)) 2 (omega (arith, h, count)))
+      ∙ go (nat_lt (length (v ∷ after v r)) 2) (less_means (length (v ∷ after v r)) 2 (omega (arith, h, count)))
       (cond (is_closed position_cmp (v ∷ after v r) && nat_lt (length (v ∷ after v r)) 4) (Some TooShort) (cond (repeats position_cmp (v ∷ after v r)) (Some Revisit) None))
     where
       go : (b : Bool) → b ≡ true → (o : Option ShapeFault) → cond b (Some TooShort) o ≡ Some TooShort
@@ -229,15 +229,15 @@ module _ (v w : Pos) (r : List Pos) (ends : last_of v r ≡ w) (n : ℕ) (count 
     where
       go : (a : Bool) → cond a (Some TooShort) (cond (is_closed position_cmp (v ∷ after v r) && nat_lt (length (v ∷ after v r)) 4) (Some TooShort) (cond (repeats position_cmp (v ∷ after v r)) (Some Revisit) None)) ≡ Some TooShort
       go true = refl
-      go false = rw (closed_told v w (after v r) far e, less_told (length (v ∷ after v r)) 4 (omega (arith, h, count))) refl
+      go false = rw (closed_means v w (after v r) far e, less_means (length (v ∷ after v r)) 4 (omega (arith, h, count))) refl
 
   pub line_twice : 3 ≤ n → Repeats (v ∷ after v r) → line_fault position_cmp (v ∷ r) ≡ Some Revisit
   unfolding line_fault
   line_twice h d =
       ap (collapsed_line_fault position_cmp) (collapsed_after v r)
-      ∙ go (nat_lt (length (v ∷ after v r)) 2) (not_less_told (length (v ∷ after v r)) 2 (omega (arith, h, count)))
-      (is_closed position_cmp (v ∷ after v r)) (nat_lt (length (v ∷ after v r)) 4) (not_less_told (length (v ∷ after v r)) 4 (omega (arith, h, count)))
-      (repeats position_cmp (v ∷ after v r)) (told_repeats position_cmp position_total position_same (v ∷ after v r) d)
+      ∙ go (nat_lt (length (v ∷ after v r)) 2) (not_less_means (length (v ∷ after v r)) 2 (omega (arith, h, count)))
+      (is_closed position_cmp (v ∷ after v r)) (nat_lt (length (v ∷ after v r)) 4) (not_less_means (length (v ∷ after v r)) 4 (omega (arith, h, count)))
+      (repeats position_cmp (v ∷ after v r)) (if_repeats position_cmp position_total position_same (v ∷ after v r) d)
     where
       go : (a : Bool) → a ≡ false → (b c : Bool) → c ≡ false → (d : Bool) → d ≡ true → cond a (Some TooShort) (cond (b && c) (Some TooShort) (cond d (Some Revisit) None)) ≡ Some Revisit
       go true e b c f d g = absurd cc
@@ -248,20 +248,20 @@ module _ (v w : Pos) (r : List Pos) (ends : last_of v r ≡ w) (n : ℕ) (count 
 
   pub ring_open : ¬ (v ≡ w) → ring_fault position_cmp (v ∷ r) ≡ Some NotClosed
   unfolding ring_fault
-  ring_open e = ap (collapsed_ring_fault position_cmp) (collapsed_after v r) ∙ rw (open_told v w (after v r) far e) refl
+  ring_open e = ap (collapsed_ring_fault position_cmp) (collapsed_after v r) ∙ rw (open_means v w (after v r) far e) refl
 
   pub ring_short : v ≡ w → n < 3 → ring_fault position_cmp (v ∷ r) ≡ Some TooShort
   unfolding ring_fault
   ring_short e h =
       ap (collapsed_ring_fault position_cmp) (collapsed_after v r)
-      ∙ rw (closed_told v w (after v r) far e, less_told (length (v ∷ after v r)) 4 (omega (arith, h, count))) refl
+      ∙ rw (closed_means v w (after v r) far e, less_means (length (v ∷ after v r)) 4 (omega (arith, h, count))) refl
 
   pub ring_twice : v ≡ w → 3 ≤ n → Repeats (v ∷ after v r) → ring_fault position_cmp (v ∷ r) ≡ Some Revisit
   unfolding ring_fault
   ring_twice e h d =
       ap (collapsed_ring_fault position_cmp) (collapsed_after v r)
       ∙ rw (
-        closed_told v w (after v r) far e,
-        not_less_told (length (v ∷ after v r)) 4 (omega (arith, h, count)),
-        told_repeats position_cmp position_total position_same (v ∷ after v r) d,
+        closed_means v w (after v r) far e,
+        not_less_means (length (v ∷ after v r)) 4 (omega (arith, h, count)),
+        if_repeats position_cmp position_total position_same (v ∷ after v r) d,
       ) refl

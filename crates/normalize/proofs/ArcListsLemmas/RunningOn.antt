@@ -43,11 +43,11 @@ distinct_once (x ∷ l) n = ((λ h. n (inl h)), distinct_once l (λ h. n (inr h)
 none_in : (l : List ℕ) → l ≡ [] → length l ≡ 0
 none_in l e = ap length e
 
-module _ (told made sorted seen : List ℕ) (is : made ≡ told) (p : IsPermutation made sorted) (s : IsSorted nat_cmp sorted) (same : seen ≡ sorted) (b : Bool) (e : b ≡ equal_neighbours nat_eq seen) where
-  pub numbers_apart : (n : ℕ) (none : Bool) → n ≡ length made → none ≡ nat_eq n 0 → none ≡ false → not b ≡ true → HaveLabels told
+module _ (meant made sorted seen : List ℕ) (is : made ≡ meant) (p : IsPermutation made sorted) (s : IsSorted nat_cmp sorted) (same : seen ≡ sorted) (b : Bool) (e : b ≡ equal_neighbours nat_eq seen) where
+  pub numbers_apart : (n : ℕ) (none : Bool) → n ≡ length made → none ≡ nat_eq n 0 → none ≡ false → not b ≡ true → HaveLabels meant
   numbers_apart n none len empty f t = record {
     some = λ z. (let k : true ≡ false = sym (same_number n 0 (len ∙ ap length (is ∙ z))) ∙ sym empty ∙ f in absurd cc);
-    once = distinct_once told (λ d. never b (e ∙ ap (equal_neighbours nat_eq) same ∙ doubled_neighbours nat_cmp nat_cmp_total nat_cmp-IsAntisymmetric nat_eq eqb-true same_number sorted s
+    once = distinct_once meant (λ d. never b (e ∙ ap (equal_neighbours nat_eq) same ∙ doubled_neighbours nat_cmp nat_cmp_total nat_cmp-IsAntisymmetric nat_eq eqb-true same_number sorted s
         (Doubled-permutation nat_cmp nat_cmp_total nat_cmp-IsAntisymmetric made sorted p (subst Doubled (sym is) d))) t);
   }
     where
@@ -55,9 +55,9 @@ module _ (told made sorted seen : List ℕ) (is : made ≡ told) (p : IsPermutat
       never true g h = absurd cc
       never false g h = absurd cc
 
-  pub number_twice : b ≡ true → (n : ℕ) × Twice n told
+  pub number_twice : b ≡ true → (n : ℕ) × Twice n meant
   number_twice t =
-      doubled_twice told (subst Doubled is (Doubled-permutation nat_cmp nat_cmp_total nat_cmp-IsAntisymmetric sorted made (IsPermutation-sym made sorted p)
+      doubled_twice meant (subst Doubled is (Doubled-permutation nat_cmp nat_cmp_total nat_cmp-IsAntisymmetric sorted made (IsPermutation-sym made sorted p)
       (neighbours_doubled nat_cmp nat_cmp_total nat_cmp-IsAntisymmetric nat_eq eqb-true same_number sorted (sym (e ∙ ap (equal_neighbours nat_eq) same) ∙ t))))
 
 -- ---- positions that are compared

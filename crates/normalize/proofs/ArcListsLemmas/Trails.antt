@@ -192,8 +192,8 @@ module _ (arcs : List (List Pos)) (ss : List ArcSummary) (ls : List ℕ) (known 
         go [] k n = absurd (n refl)
         go (a ∷ us) k n = k
 
-    pub line_told : StitchToFault (line_fault position_cmp) arcs used None
-    line_told = let t = runs_stitch arcs v used w runs in (v ∷ t.0, stitch_to t.0 t.1, without_fault t.0 t.1)
+    pub line_says : StitchToFault (line_fault position_cmp) arcs used None
+    line_says = let t = runs_stitch arcs v used w runs in (v ∷ t.0, stitch_to t.0 t.1, without_fault t.0 t.1)
 
     ring_judged : (x : Pos) (l : List Pos) → last_of x l ≡ x → collapsed_line_fault position_cmp (x ∷ l) ≡ None → collapsed_ring_fault position_cmp (x ∷ l) ≡ None
     ring_judged x l e f =
@@ -214,7 +214,7 @@ module _ (arcs : List (List Pos)) (ss : List ArcSummary) (ls : List ℕ) (known 
         ap (collapsed_ring_fault position_cmp) (collapsed_after v r)
         ∙ ring_judged v (after v r) (after_last v r ∙ e) (ap (collapsed_line_fault position_cmp) (sym (collapsed_after v r)) ∙ f)
 
-    pub ring_told : v ≡ w → StitchToFault (ring_fault position_cmp) arcs used None
-    ring_told e =
+    pub ring_says : v ≡ w → StitchToFault (ring_fault position_cmp) arcs used None
+    ring_says e =
         let t = runs_stitch arcs v used w runs in
         (v ∷ t.0, stitch_to t.0 t.1, closed_without_fault t.0 (t.2 ∙ sym e) (without_fault t.0 t.1))

@@ -1,6 +1,6 @@
 //! What lists have to know of each arc.
 ghost use Rattle.normalize.specs.ArcLists.Summaries.{AreSummaries};
-ghost use Rattle.grid.specs.declared.pos.Pos.{Pos as place};
+ghost use Rattle.grid.specs.declared.pos.Pos.{Pos as index};
 ghost use Rattle.lines.specs.Reading.{collapsed};
 ghost use Rattle.lines.specs.Turned.{position_cmp};
 ghost use Rattle.std.specs.Prelude.{◌≡◌, IfOk, List, Some, length, slice_get, true};
@@ -77,7 +77,7 @@ impl ArcSummary {
     }
 
     fn of_number(alloc: Global, arcs: &TextArcs, number: usize) -> Result<ArcSummary, OutOfMemory>
-        ensures { IfOk result (λ s. (c : List place) → slice_get arcs.now number ≡ Some c → IsSummary c s) }
+        ensures { IfOk result (λ s. (c : List index) → slice_get arcs.now number ≡ Some c → IsSummary c s) }
     {
         match arcs.arc(number) {
             Some(arc) => ArcSummary::of(alloc, arc),

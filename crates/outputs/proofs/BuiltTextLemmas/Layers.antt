@@ -184,8 +184,8 @@ pub record SoFarMap (t : Transform) (texts left : List (List ℕ × List ℕ)) (
   pub parts : before ++ left ≡ texts
   pub collected : Collected t before m
 
-pub map_begun : (t : Transform) (texts : List (List ℕ × List ℕ)) → SoFarMap t texts texts finite.empty
-map_begun t texts = record { before = []; parts = refl; collected = collected_none t }
+pub map_started : (t : Transform) (texts : List (List ℕ × List ℕ)) → SoFarMap t texts texts finite.empty
+map_started t texts = record { before = []; parts = refl; collected = collected_none t }
 
 pub map_more : (t : Transform) (texts left : List (List ℕ × List ℕ)) (n bytes : List ℕ) (after : List (List ℕ × List ℕ)) (m : Layers) (s : Features)
     → SoFarMap t texts left m → left ≡ (n, bytes) ∷ after → AreFeatures s (features_of_text t bytes) → SoFarMap t texts after (with_features m n s)

@@ -260,8 +260,8 @@ ascending_text of (Some d) a = a d
 -- ---- the first that is found
 
 -- where the first alone was wanted, the one that was found is the least
-pub first_told : (ps : List Pair) (f : Fault) (fs : List Fault) → IsAscending ps → AreFound First ps (pair_of f ∷ map pair_of fs) → LeastOrWant ps f
-first_told ps f fs a h = record { least = λ real. go ps a h.are }
+pub first_means : (ps : List Pair) (f : Fault) (fs : List Fault) → IsAscending ps → AreFound First ps (pair_of f ∷ map pair_of fs) → LeastOrWant ps f
+first_means ps f fs a h = record { least = λ real. go ps a h.are }
   where
     go : (ps : List Pair) → IsAscending ps → (pair_of f ∷ map pair_of fs) ≡ kept First ps → IsLeast ps (pair_of f)
     go [] a e = absurd cc

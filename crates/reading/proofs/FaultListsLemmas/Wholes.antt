@@ -130,9 +130,9 @@ the_one q p h = go h.present
     go (suc k, less, is) = absurd (omega (arith, less))
 
 -- the fault that was told of a line or a ring is all that it has
-pub outline_told : (o : Option ShapeFault) (f : Fault) (qs : List Pair) → LeastOrWant (outline_faults o) f → (f.kind ≡ OutOfMemory → ⊥) → AtMostOne (here f.kind) qs → AtMostOne (outline_faults o) qs
-outline_told None f qs least real h = absurd (no_least (pair_of f) (least.least real))
-outline_told (Some g) f qs least real h =
+pub outline_means : (o : Option ShapeFault) (f : Fault) (qs : List Pair) → LeastOrWant (outline_faults o) f → (f.kind ≡ OutOfMemory → ⊥) → AtMostOne (here f.kind) qs → AtMostOne (outline_faults o) qs
+outline_means None f qs least real h = absurd (no_least (pair_of f) (least.least real))
+outline_means (Some g) f qs least real h =
     let same = ap (λ p. p.kind) (the_one (record { path = []; kind = outline_kind g }) (pair_of f) (least.least real)) in
     subst (λ k. AtMostOne (here k) qs) (sym same) h
 

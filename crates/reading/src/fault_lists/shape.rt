@@ -19,7 +19,7 @@ use std::alloc::Global;
 ///
 /// # Errors
 /// Where memory is refused.
-#[tactic(auto, using(crate::proofs::FaultListsLemmas::Wholes::outline_told, crate::proofs::FaultListsLemmas::Kept::one_none))]
+#[tactic(auto, using(crate::proofs::FaultListsLemmas::Wholes::outline_means, crate::proofs::FaultListsLemmas::Kept::one_none))]
 pub fn judge_outline<O: Outline>(
     alloc: Global,
     positions: Vec<Pos>,

@@ -5,7 +5,7 @@ use chains::used_arcs::{add_backwards, add_in_direction};
 use chains::{ArcRef, ArcTable, Piece, VisitIndex, add_pieces, cut_line, cut_ring};
 use faults::OutOfMemory;
 use refused_calls::calls::Borrowed;
-use refused_calls::comparing::{are_arcs, are_used, stand_at};
+use refused_calls::comparing::{are_arcs, are_used, are_at};
 use refused_calls::inputs::{built, is_of, positions, read};
 use refused_calls::outcome::Tally;
 use refused_calls::tables::{Lends, Row, both};
@@ -70,14 +70,14 @@ fn index_of_line(alloc: Global) -> Option<VisitIndex> {
 impl Borrowed for Cutting {
     fn is_as_before(&self) -> bool {
         is_of(&self.left, FIRST)
-            && stand_at(self.ring.vertices(), VERTICES)
-            && stand_at(self.line.positions(), LOWER)
+            && are_at(self.ring.vertices(), VERTICES)
+            && are_at(self.line.positions(), LOWER)
             && has_junctions(&self.index)
     }
 }
 
 fn is_part(piece: &Piece, part: &Part) -> bool {
-    stand_at(piece.chain(), part.0) && piece.reversed() == part.1 && !piece.is_free()
+    are_at(piece.chain(), part.0) && piece.reversed() == part.1 && !piece.is_free()
 }
 
 pub(crate) fn are_parts(pieces: &[Piece], parts: &[Part]) -> bool {

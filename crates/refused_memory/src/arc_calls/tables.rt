@@ -3,7 +3,7 @@
 use chains::{ArcTable, Piece};
 use faults::OutOfMemory;
 use refused_calls::calls::Borrowed;
-use refused_calls::comparing::{are_lists_of, same_arcs, stand_at};
+use refused_calls::comparing::{are_lists_of, same_arcs, are_at};
 use refused_calls::inputs::{built, is_of};
 use refused_calls::outcome::Tally;
 use refused_calls::tables::{Lends, Row, both};
@@ -40,7 +40,7 @@ fn share(alloc: Global, tables: &Tables) -> Result<bool, OutOfMemory> {
 }
 
 fn is_triangle(piece: &Piece) -> bool {
-    stand_at(piece.chain(), &[(0, 0), (0, 2), (2, 0), (0, 0)]) && !piece.reversed()
+    are_at(piece.chain(), &[(0, 0), (0, 2), (2, 0), (0, 0)]) && !piece.reversed()
 }
 
 fn piece(alloc: Global, tables: &Tables) -> Result<bool, OutOfMemory> {

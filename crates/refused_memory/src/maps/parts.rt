@@ -3,7 +3,7 @@
 use faults::OutOfMemory;
 use grid::Pos;
 use refused_calls::calls;
-use refused_calls::comparing::stand_at;
+use refused_calls::comparing::are_at;
 use refused_calls::inputs::positions;
 use refused_calls::outcome::{Answer, Tally};
 use shapes::{Line, Props, Ring, ShapeFault, Spelled};
@@ -36,13 +36,13 @@ fn judge<T: Drop, F: Fn(Global, Vec<Pos>) -> Result<T, ShapeFault>, R: Fn(&T) ->
 
 fn ring(alloc: Global, _: &()) -> Answer {
     judge(alloc, Ring::from_closed, |ring: &Ring| {
-        stand_at(ring.vertices(), &VERTICES)
+        are_at(ring.vertices(), &VERTICES)
     })
 }
 
 fn line(alloc: Global, _: &()) -> Answer {
     judge(alloc, Line::from_positions, |line: &Line| {
-        stand_at(line.positions(), &SQUARE)
+        are_at(line.positions(), &SQUARE)
     })
 }
 

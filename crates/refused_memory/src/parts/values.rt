@@ -4,7 +4,7 @@ use faults::{Fault, FaultKind, OutOfMemory, Step};
 use grid::Pos;
 use lines::position_filter::PositionFilter;
 use refused_calls::calls::Borrowed;
-use refused_calls::comparing::stand_at;
+use refused_calls::comparing::are_at;
 use refused_calls::inputs::positions;
 use refused_calls::outcome::Tally;
 use refused_calls::tables::{Lends, Row, both};
@@ -53,9 +53,9 @@ fn value(alloc: Global) -> Option<Value> {
 
 impl Borrowed for Values {
     fn is_as_before(&self) -> bool {
-        stand_at(self.places.as_slice(), SQUARE)
-            && stand_at(self.line.positions(), SQUARE)
-            && stand_at(self.ring.vertices(), VERTICES)
+        are_at(self.places.as_slice(), SQUARE)
+            && are_at(self.line.positions(), SQUARE)
+            && are_at(self.ring.vertices(), VERTICES)
             && self.name.text() == NAME
     }
 }
@@ -78,7 +78,7 @@ fn copy_in(alloc: Global, values: &Values) -> Result<bool, OutOfMemory> {
 
 fn copy_places(alloc: Global, values: &Values) -> Result<bool, OutOfMemory> {
     let copies = copy_each(alloc, values.places.as_slice())?;
-    Ok(stand_at(copies.as_slice(), SQUARE))
+    Ok(are_at(copies.as_slice(), SQUARE))
 }
 
 fn clone_places(alloc: Global, values: &Values) -> Result<bool, OutOfMemory> {

@@ -12,7 +12,7 @@ use Rattle.theory.specs.Lists.{Has}
 use Rattle.theory.proofs.Lists.{Has-append, Has-append_left, Has-append_right}
 use Rattle.compare.specs.declared.quality.pairs.NearPlace.{NearPlace}
 use Rattle.snapping.specs.NearlyShared.Joined.{positions_in}
-use Rattle.snapping.specs.NearlyShared.Rest.{AreBeside, ArePaired, Table, beside, listed, noted}
+use Rattle.snapping.specs.NearlyShared.Rest.{AreBeside, ArePaired, Table, beside, listed, recorded}
 
 pub Has-decide : (p : Pos) (ps : List Pos) → Has p ps ⊎ (¬ Has p ps)
 Has-decide p [] = inr (λ h. h)
@@ -81,9 +81,9 @@ pub listed_or : (o : Option (Vec Pos Global)) (d : Vec Pos Global) → d.items �
 listed_or None d e = e
 listed_or (Some v) d e = refl
 
-pub noted_there : (old mid new : Table) (one other q : Pos) (before after : Vec Pos Global) → before.items ≡ beside old one → after.items ≡ before.items ++ (other ∷ []) →
-    Updates position_cmp old mid one None → Updates position_cmp mid new one (Some after) → beside new q ≡ noted one other q (beside old q)
-noted_there old mid new one other q before after b a u w = go (is_eq (position_cmp one q)) refl
+pub recorded_there : (old mid new : Table) (one other q : Pos) (before after : Vec Pos Global) → before.items ≡ beside old one → after.items ≡ before.items ++ (other ∷ []) →
+    Updates position_cmp old mid one None → Updates position_cmp mid new one (Some after) → beside new q ≡ recorded one other q (beside old q)
+recorded_there old mid new one other q before after b a u w = go (is_eq (position_cmp one q)) refl
   where
     go : (t : Bool) → is_eq (position_cmp one q) ≡ t → beside new q ≡ cond t (beside old q ++ (other ∷ [])) (beside old q)
     go true e =
@@ -92,8 +92,8 @@ noted_there old mid new one other q before after b a u w = go (is_eq (position_c
     go false e = ap listed (w.2 q e) ∙ ap listed (u.2 q e)
 
 -- the noted position, and those before
-pub noted_has : (one other p q : Pos) (l : List Pos) → Has q (noted one other p l) ↔ (Has q l ⊎ ((p ≡ one) × (q ≡ other)))
-noted_has one other p q l = go (is_eq (position_cmp one p)) refl
+pub recorded_has : (one other p q : Pos) (l : List Pos) → Has q (recorded one other p l) ↔ (Has q l ⊎ ((p ≡ one) × (q ≡ other)))
+recorded_has one other p q l = go (is_eq (position_cmp one p)) refl
   where
     go : (t : Bool) → is_eq (position_cmp one p) ≡ t → Has q (cond t (l ++ (other ∷ [])) l) ↔ (Has q l ⊎ ((p ≡ one) × (q ≡ other)))
     go true e = (
@@ -103,38 +103,38 @@ noted_has one other p q l = go (is_eq (position_cmp one p)) refl
     go false e = ((λ h. inl h), (λ h. elim h [ inl k ↦ k | inr k ↦ absurd (true_false (is_eq (position_cmp one p)) (tied_position one p (sym k.0)) e) ]))
 
 -- the neighbours that are noted, and those of the pairs that are left, are those of all pairs
-pub record AreNoted (pairs left : List (NearPlace × NearPlace)) (m : Table) : Type 0 where
+pub record AreRecorded (pairs left : List (NearPlace × NearPlace)) (m : Table) : Type 0 where
   pub each : (p q : Pos) → (Has q (beside m p) ⊎ ArePaired (positions_in left) p q) ↔ ArePaired (positions_in pairs) p q
 
-pub none_noted : (pairs : List (NearPlace × NearPlace)) (m : Table) → m.entries ≡ [] → AreNoted pairs pairs m
-none_noted pairs m e = record {
+pub none_recorded : (pairs : List (NearPlace × NearPlace)) (m : Table) → m.entries ≡ [] → AreRecorded pairs pairs m
+none_recorded pairs m e = record {
   each = λ p q. ((λ h. elim h [ inl k ↦ absurd (subst (Has q) (ap (λ es. listed (lookup (is_at (position_cmp p)) es)) e) k) | inr k ↦ k ]), (λ h. inr h));
 }
 
 both_same : (a b c d : Pos) → a ≡ c → b ≡ d → ◌≡◌ {A = Pos × Pos} (a, b) (c, d)
 both_same a b c d e f = cc
 
-pub one_more_noted : (pairs left rest : List (NearPlace × NearPlace)) (one other : NearPlace) (m n k : Table) → left ≡ (one, other) ∷ rest →
-    ((q : Pos) → beside n q ≡ noted one.at other.at q (beside m q)) → ((q : Pos) → beside k q ≡ noted other.at one.at q (beside n q)) → AreNoted pairs left m →
-    AreNoted pairs rest k
-one_more_noted pairs left rest one other m n k e f g a = record {
+pub one_more_recorded : (pairs left rest : List (NearPlace × NearPlace)) (one other : NearPlace) (m n k : Table) → left ≡ (one, other) ∷ rest →
+    ((q : Pos) → beside n q ≡ recorded one.at other.at q (beside m q)) → ((q : Pos) → beside k q ≡ recorded other.at one.at q (beside n q)) → AreRecorded pairs left m →
+    AreRecorded pairs rest k
+one_more_recorded pairs left rest one other m n k e f g a = record {
   each = λ p q. ((λ h. (a.each p q).0 (back p q h)), (λ h. on p q ((a.each p q).1 h)));
 }
   where
     is_left : (p q : Pos) → ArePaired (positions_in ((one, other) ∷ rest)) p q → ArePaired (positions_in left) p q
     is_left p q h = subst (λ l. ArePaired (positions_in l) p q) (sym e) h
 
-    noted_once : (p q : Pos) → Has q (beside n p) → Has q (beside m p) ⊎ ArePaired (positions_in left) p q
-    noted_once p q h =
-        elim ((noted_has one.at other.at p q (beside m p)).0 (subst (Has q) (f p) h)) [
+    recorded_once : (p q : Pos) → Has q (beside n p) → Has q (beside m p) ⊎ ArePaired (positions_in left) p q
+    recorded_once p q h =
+        elim ((recorded_has one.at other.at p q (beside m p)).0 (subst (Has q) (f p) h)) [
           | inl w ↦ inl w
           | inr w ↦ inr (is_left p q (inl (inl (both_same p q one.at other.at w.0 w.1))))
         ]
 
     back : (p q : Pos) → Has q (beside k p) ⊎ ArePaired (positions_in rest) p q → Has q (beside m p) ⊎ ArePaired (positions_in left) p q
     back p q (inl h) =
-        elim ((noted_has other.at one.at p q (beside n p)).0 (subst (Has q) (g p) h)) [
-          | inl w ↦ noted_once p q w
+        elim ((recorded_has other.at one.at p q (beside n p)).0 (subst (Has q) (g p) h)) [
+          | inl w ↦ recorded_once p q w
           | inr w ↦ inr (is_left p q (inr (inl (both_same q p one.at other.at w.1 w.0))))
         ]
     back p q (inr (inl h)) = inr (is_left p q (inl (inr h)))
@@ -142,21 +142,21 @@ one_more_noted pairs left rest one other m n k e f g a = record {
 
     in_n : (p q : Pos) → Has q (beside m p) ⊎ ((p ≡ one.at) × (q ≡ other.at)) → Has q (beside k p)
     in_n p q h =
-        subst (Has q) (sym (g p)) ((noted_has other.at one.at p q (beside n p)).1 (inl (subst (Has q) (sym (f p)) ((noted_has one.at other.at p q (beside m p)).1 h))))
+        subst (Has q) (sym (g p)) ((recorded_has other.at one.at p q (beside n p)).1 (inl (subst (Has q) (sym (f p)) ((recorded_has one.at other.at p q (beside m p)).1 h))))
 
     paired_on : (p q : Pos) → ArePaired (positions_in ((one, other) ∷ rest)) p q → Has q (beside k p) ⊎ ArePaired (positions_in rest) p q
     paired_on p q (inl (inl h)) = inl (in_n p q (inr (ap (λ w. w.0) h, ap (λ w. w.1) h)))
     paired_on p q (inl (inr h)) = inr (inl h)
     paired_on p q (inr (inl h)) =
-        inl (subst (Has q) (sym (g p)) ((noted_has other.at one.at p q (beside n p)).1 (inr (ap (λ w. w.1) h, ap (λ w. w.0) h))))
+        inl (subst (Has q) (sym (g p)) ((recorded_has other.at one.at p q (beside n p)).1 (inr (ap (λ w. w.1) h, ap (λ w. w.0) h))))
     paired_on p q (inr (inr h)) = inr (inr h)
 
     on : (p q : Pos) → Has q (beside m p) ⊎ ArePaired (positions_in left) p q → Has q (beside k p) ⊎ ArePaired (positions_in rest) p q
     on p q (inl h) = inl (in_n p q (inl h))
     on p q (inr h) = paired_on p q (subst (λ l. ArePaired (positions_in l) p q) e h)
 
-pub all_noted : (pairs left : List (NearPlace × NearPlace)) (m : Table) → left ≡ [] → AreNoted pairs left m → AreBeside (positions_in pairs) m
-all_noted pairs left m e a = λ p q. (
+pub all_recorded : (pairs left : List (NearPlace × NearPlace)) (m : Table) → left ≡ [] → AreRecorded pairs left m → AreBeside (positions_in pairs) m
+all_recorded pairs left m e a = λ p q. (
   (λ h. (a.each p q).0 (inl h)),
   (λ h. elim ((a.each p q).1 h) [
     | inl k ↦ k

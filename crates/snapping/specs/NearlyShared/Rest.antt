@@ -23,8 +23,8 @@ abbrev pub beside : Table → Pos → List Pos
 beside m q = listed (get position_cmp m q)
 
 -- the positions beside q, where one more is noted at p
-abbrev pub noted : Pos → Pos → Pos → List Pos → List Pos
-noted p other q l = cond (is_eq (position_cmp p q)) (l ++ (other ∷ [])) l
+abbrev pub recorded : Pos → Pos → Pos → List Pos → List Pos
+recorded p other q l = cond (is_eq (position_cmp p q)) (l ++ (other ∷ [])) l
 
 -- p and q are a pair, in either order
 abbrev pub ArePaired : List (Pos × Pos) → Pos → Pos → Type 0

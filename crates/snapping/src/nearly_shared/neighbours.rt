@@ -1,7 +1,7 @@
 //! For each position of a pair that is nearly shared, those that it is nearly shared with.
 ghost use Rattle.grid.specs.declared.pos.Pos as positions;
 ghost use Rattle.snapping.specs.NearlyShared.Joined.{positions_in};
-ghost use Rattle.snapping.specs.NearlyShared.Rest.{AreBeside, beside, noted};
+ghost use Rattle.snapping.specs.NearlyShared.Rest.{AreBeside, beside, recorded};
 ghost use Rattle.std.specs.Prelude.{◌≡◌, IfOk, OnOk};
 
 use compare::quality::pairs::NearPlace;
@@ -16,7 +16,7 @@ fn add(
     one: Pos,
     other: Pos,
 ) -> Result<(), AllocError>
-    ensures { OnOk result ((q : positions.Pos) → beside near.new q ≡ noted one other q (beside near.old q)) }
+    ensures { OnOk result ((q : positions.Pos) → beside near.new q ≡ recorded one other q (beside near.old q)) }
 {
     let mut others = near.remove(&one).unwrap_or(Vec::new(alloc));
     others.push(other)?;

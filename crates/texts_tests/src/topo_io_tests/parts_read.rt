@@ -62,10 +62,10 @@ const REFUSED: &[(&str, &str)] = rows! {
 };
 
 #[test]
-fn other_faults_are_told(rt: HostRuntime) {
+fn other_faults_are_reported(rt: HostRuntime) {
     for (title, text) in REFUSED {
-        let is_told = are_parts_unread(rt.alloc(), *text) && is_refused(rt.alloc(), *text);
-        assert!(rt; is_told, "{title}");
+        let is_answered = are_parts_unread(rt.alloc(), *text) && is_refused(rt.alloc(), *text);
+        assert!(rt; is_answered, "{title}");
     }
 }
 
@@ -276,7 +276,7 @@ fn are_arcs_of_other_tool(parts: &TextParts) -> bool {
 }
 
 #[test]
-fn arcs_as_they_stand(rt: HostRuntime) -> Result<(), Fail> {
+fn arcs_as_they_are(rt: HostRuntime) -> Result<(), Fail> {
     let parts = read_parts(rt.alloc(), OTHER_TOOL.as_bytes())?;
     assert!(rt; are_arcs_of_other_tool(&parts));
     Ok(())

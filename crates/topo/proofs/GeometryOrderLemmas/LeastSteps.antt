@@ -71,9 +71,9 @@ get_mapped f (y ∷ l) zero x e = let k : y ≡ x = cc in ap (λ w. Some (f w)) 
 get_mapped f (y ∷ l) (suc i) x e = get_mapped f l i x e
 
 -- what is noted of a used arc is the least step along it
-pub noted_least : (arcs : List (List Pos)) (a : ArcRef) (d : List Pos) → slice_get arcs a.arc ≡ Some d → 2 ≤ length d →
+pub recorded_least : (arcs : List (List Pos)) (a : ArcRef) (d : List Pos) → slice_get arcs a.arc ≡ Some d → 2 ≤ length d →
     (s : ArcStep) × (least_at (least_of arcs) a ≡ Some s) × IsLeastStep (cond a.reversed (reverse d) d) s
-noted_least arcs a d e n =
+recorded_least arcs a d e n =
     let (b, f, h, k) = both_least d n in
     let g : slice_get (least_of arcs) a.arc ≡ Some (Some b) = get_mapped least_both arcs a.arc d e ∙ ap Some f in
     (cond a.reversed b.backward b.forward, ap (λ o. least_if o a) g, go a.reversed b h k)

@@ -84,20 +84,20 @@ module _ (arcs : List (List Pos)) (noded : AreNoded arcs) (a : ArcRef) (t d : Li
           ∙ (λ i. ordering_then (option_cmp step_cmp (sym b' i) (sym b i)) (sym (something_greater us) i))
 
   -- lists behind the arc, up to the step in it, stand as the arcs up to its end
-  pub round_stand : (us vs : List ArcRef) → ((u : ArcRef) → Has u us → Apart arcs a least u) → ((v : ArcRef) → Has v vs → Apart arcs a least v) →
+  pub round_hold : (us vs : List ArcRef) → ((u : ArcRef) → Has u us → Apart arcs a least u) → ((v : ArcRef) → Has v vs → Apart arcs a least v) →
       slice_cmp step_cmp (gathered (steps_along arcs) us ++ t) (gathered (steps_along arcs) vs ++ t) ≡ starts_cmp arcs (us ++ (a ∷ [])) (vs ++ (a ∷ []))
-  round_stand [] [] f g =
+  round_hold [] [] f g =
       tied_itself (lists_total step_total) t
       ∙ (let (s, l, e, b) = goes in
       sym ((λ i. ordering_then (option_cmp step_cmp (b i) (b i)) Equal) ∙ ap (λ o. ordering_then o Equal) (tied_itself step_total s)))
-  round_stand [] (v ∷ vs) f g = ends_first v (gathered (steps_along arcs) vs) vs (g v (inl refl)) t refl
-  round_stand (u ∷ us) [] f g = ends_second u (gathered (steps_along arcs) us) us (f u (inl refl)) t refl
-  round_stand (u ∷ us) (v ∷ vs) f g =
+  round_hold [] (v ∷ vs) f g = ends_first v (gathered (steps_along arcs) vs) vs (g v (inl refl)) t refl
+  round_hold (u ∷ us) [] f g = ends_second u (gathered (steps_along arcs) us) us (f u (inl refl)) t refl
+  round_hold (u ∷ us) (v ∷ vs) f g =
       let (s, l, e, b) = (f u (inl refl)).goes in
       let (s', k, e', b') = (g v (inl refl)).goes in
       let W = gathered (steps_along arcs) us in
       let X = gathered (steps_along arcs) vs in
-      let rest = round_stand us vs (λ w h. f w (inr h)) (λ w h. g w (inr h)) in
+      let rest = round_hold us vs (λ w h. f w (inr h)) (λ w h. g w (inr h)) in
       (λ i. slice_cmp step_cmp ((e i ++ W) ++ t) ((e' i ++ X) ++ t))
       ∙ then_same (step_cmp s s') (slice_cmp step_cmp ((l ++ W) ++ t) ((k ++ X) ++ t)) (starts_cmp arcs (us ++ (a ∷ [])) (vs ++ (a ∷ [])))
       (λ same.

@@ -37,22 +37,22 @@ pub itself : (p : Pos) → position_cmp p p ≡ Equal
 itself p = tied_itself position_total p
 
 -- lists that go on from one position stand as their steps
-pub from_stand : (p : Pos) (k l : List Pos) → list_cmp k l ≡ slice_cmp step_cmp (steps_from p k) (steps_from p l)
-from_stand p [] [] = refl
-from_stand p [] (y ∷ l) = refl
-from_stand p (x ∷ k) [] = refl
-from_stand p (x ∷ k) (y ∷ l) =
+pub from_hold : (p : Pos) (k l : List Pos) → list_cmp k l ≡ slice_cmp step_cmp (steps_from p k) (steps_from p l)
+from_hold p [] [] = refl
+from_hold p [] (y ∷ l) = refl
+from_hold p (x ∷ k) [] = refl
+from_hold p (x ∷ k) (y ∷ l) =
     then_same (position_cmp x y) (list_cmp k l) (slice_cmp step_cmp (steps_from x k) (steps_from y l))
-    (λ e. from_stand x k l ∙ ap (λ z. slice_cmp step_cmp (steps_from x k) (steps_from z l)) (position_same x y e))
+    (λ e. from_hold x k l ∙ ap (λ z. slice_cmp step_cmp (steps_from x k) (steps_from z l)) (position_same x y e))
     ∙ ap (λ o. ordering_then (ordering_then o (position_cmp x y)) (slice_cmp step_cmp (steps_from x k) (steps_from y l))) (sym (itself p))
 
 -- lists of two positions or more stand as their steps
-pub steps_stand : (x a y b : Pos) (k l : List Pos) →
+pub steps_hold : (x a y b : Pos) (k l : List Pos) →
     list_cmp (x ∷ (a ∷ k)) (y ∷ (b ∷ l)) ≡ slice_cmp step_cmp (steps_of (x ∷ (a ∷ k))) (steps_of (y ∷ (b ∷ l)))
-steps_stand x a y b k l =
+steps_hold x a y b k l =
     ap (λ o. ordering_then (position_cmp x y) o)
     (then_same (position_cmp a b) (list_cmp k l) (slice_cmp step_cmp (steps_from a k) (steps_from b l))
-    (λ e. from_stand a k l ∙ ap (λ z. slice_cmp step_cmp (steps_from a k) (steps_from z l)) (position_same a b e)))
+    (λ e. from_hold a k l ∙ ap (λ z. slice_cmp step_cmp (steps_from a k) (steps_from z l)) (position_same a b e)))
     ∙ sym (then_groups (position_cmp x y) (position_cmp a b) (slice_cmp step_cmp (steps_from a k) (steps_from b l)))
 
 -- the steps of lists one after the other

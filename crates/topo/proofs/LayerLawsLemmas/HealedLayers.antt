@@ -18,8 +18,8 @@ use Rattle.theory.proofs.HealingProved as law
 use Rattle.topo.specs.OfMap.{ArePartsOf, item_of, layer_of}
 use Rattle.topo.specs.Parts.{LayerParts}
 use Rattle.topo.specs.declared.geom.Geom.{Geom}
-use Rattle.topo.specs.LayerLaws.Less.{geometry_over_healed, layer_over_healed, layers_left, less, marks_of}
-use Rattle.topo.proofs.LayerLawsLemmas.LeftGeometries.{geometries_left, is_left}
+use Rattle.topo.specs.LayerLaws.Less.{geometry_over_healed, layer_over_healed, remaining_layers, less, marks_of}
+use Rattle.topo.proofs.LayerLawsLemmas.LeftGeometries.{remaining_geometries, is_left}
 use Rattle.topo.proofs.LayerLawsLemmas.RecutGeometries.{body_seen}
 
 module _ (arcs : List (List Pos)) (starts : Starts) where
@@ -42,11 +42,11 @@ pub parts_healed : (n m : Layers) (old new : Arcs) (olds : List LayerParts) (pie
     IsTableOf (geometry_of n) new →
     IsRefinementOf position_cmp (geometry_of n) (geometry_of m) new.arcs old.arcs pieces → AreStarts pieces starts →
     ArePartsOf n new (map_list (layer_over_healed new.arcs starts) olds)
-parts_healed n m old new olds pieces starts left are table cut noted = record {
+parts_healed n m old new olds pieces starts left are table cut recorded = record {
   table = table;
   layers = subst (Pairwise (IsLayerOf position_cmp (JunctionOf (geometry_of n)) new.arcs) (seen n)) (sym (layers_over_healed_seen new.arcs starts olds))
       (law.topology_of_what_is_left {G = Unit {0}} {B = Unit {0}} position_cmp (λ g l. None) tt (seen m) (seen n) old.arcs left (map_list layer_of olds) are new.arcs pieces starts
-      ((law.joined_arcs_are_the_arcs position_cmp (geometry_of n) (geometry_of m) old.arcs left new.arcs pieces).1 cut) noted).layers;
+      ((law.joined_arcs_are_the_arcs position_cmp (geometry_of n) (geometry_of m) old.arcs left new.arcs pieces).1 cut) recorded).layers;
 }
 
 -- the parts of m's topology, without the geometries of r's features, are those of what is left
@@ -54,9 +54,9 @@ pub parts_left : (m r : Layers) (old new : Arcs) (ls : List LayerParts) (pieces 
     ArePartsOf m old ls →
     IsTableOf (geometry_of (less m r)) new →
     IsRefinementOf position_cmp (geometry_of (less m r)) (geometry_of m) new.arcs old.arcs pieces → AreStarts pieces starts →
-    ArePartsOf (less m r) new (map_list (layer_over_healed new.arcs starts) (layers_left (marks_of m r) ls))
-parts_left m r old new ls pieces starts of table cut noted =
-    parts_healed (less m r) m old new (layers_left (marks_of m r) ls) pieces starts
+    ArePartsOf (less m r) new (map_list (layer_over_healed new.arcs starts) (remaining_layers (marks_of m r) ls))
+parts_left m r old new ls pieces starts of table cut recorded =
+    parts_healed (less m r) m old new (remaining_layers (marks_of m r) ls) pieces starts
     (is_left m r old.arcs ls of.layers of.table.arcs)
-    (geometries_left m r old.arcs ls of.layers)
-    table cut noted
+    (remaining_geometries m r old.arcs ls of.layers)
+    table cut recorded

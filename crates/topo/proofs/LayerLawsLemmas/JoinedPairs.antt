@@ -18,7 +18,7 @@ use Rattle.topo.proofs.Stitched.{feature_of}
 use Rattle.topo.specs.LayerLaws.Cuts.{by_order, entries_united, merged, merged_into, name_cmp, united, united_into}
 use Rattle.topo.specs.GeometryOrder.{HaveFeatures, LayersHaveFeatures, geometry_cmp}
 use Rattle.topo.specs.LayerLaws.CutLayers.{layer_cmp, layer_recut, layers_as_one, layers_merged}
-use Rattle.topo.proofs.FeatureOrder.{features_stand}
+use Rattle.topo.proofs.FeatureOrder.{features_hold}
 use Rattle.topo.proofs.LayerLawsLemmas.JoinedLayers.{IsJoinedLayer, IsNewFor, joined_alone, joined_of_both}
 use Rattle.topo.proofs.LayerLawsLemmas.RecutGeometries.{IsLayerRecut}
 
@@ -73,11 +73,11 @@ module _ {A B : Type 0} (R : A → B → Type 0) (these : A → A → Ordering) 
 module _ (J : Pos → Type 0) (table : List (List Pos)) where
   -- features stand as their geometries
   stand : (f h : Feature) (a b : Geom) → IsNewFor J table f a → IsNewFor J table h b → feature_cmp f h ≡ geometry_cmp table a b
-  stand f h a b k m = features_stand table f h a b (feature_of J table f a k) (feature_of J table h b m)
+  stand f h a b k m = features_hold table f h a b (feature_of J table f a k) (feature_of J table h b m)
 
   -- layers stand as their names
-  names_stand : (e d : List ℕ × Features) (l k : LayerParts) → IsJoinedLayer J table e l → IsJoinedLayer J table d k → name_cmp e d ≡ layer_cmp l k
-  names_stand e d l k h m = λ i. slice_cmp nat_cmp (h.name i) (m.name i)
+  names_hold : (e d : List ℕ × Features) (l k : LayerParts) → IsJoinedLayer J table e l → IsJoinedLayer J table d k → name_cmp e d ≡ layer_cmp l k
+  names_hold e d l k h m = λ i. slice_cmp nat_cmp (h.name i) (m.name i)
 
   as_one : (e d : List ℕ × Features) (l k : LayerParts) → IsJoinedLayer J table e l → IsJoinedLayer J table d k →
       IsJoinedLayer J table (e.0, set.union e.1 d.1) (layers_as_one table l k)
@@ -87,7 +87,7 @@ module _ (J : Pos → Type 0) (table : List (List Pos)) where
 
   pub layers_joined : (es ds : List (List ℕ × Features)) (ls ks : List LayerParts) → Pairwise (IsJoinedLayer J table) es ls → Pairwise (IsJoinedLayer J table) ds ks →
       Pairwise (IsJoinedLayer J table) (entries_united es ds) (layers_merged table ls ks)
-  layers_joined = united_pairs (IsJoinedLayer J table) name_cmp layer_cmp names_stand (λ a b. (a.0, set.union a.1 b.1)) (layers_as_one table) as_one
+  layers_joined = united_pairs (IsJoinedLayer J table) name_cmp layer_cmp names_hold (λ a b. (a.0, set.union a.1 b.1)) (layers_as_one table) as_one
 
   pub cut_layers : (pieces : List (List ArcRef)) (es : List (List ℕ × Features)) (ls : List LayerParts) → Pairwise (IsLayerRecut J table pieces) es ls →
       Pairwise (IsJoinedLayer J table) es (map_list (layer_recut table pieces) ls)

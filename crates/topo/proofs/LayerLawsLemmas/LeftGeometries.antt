@@ -22,7 +22,7 @@ use Rattle.theory.proofs.HealingProved as law
 use Rattle.topo.specs.OfMap.{item_of, layer_of}
 use Rattle.topo.specs.Parts.{LayerParts}
 use Rattle.topo.proofs.Sound.{are_sound}
-use Rattle.topo.specs.LayerLaws.Less.{entries_less, entry_less, layers_left, less, marks_at, marks_of, without}
+use Rattle.topo.specs.LayerLaws.Less.{entries_less, entry_less, remaining_layers, less, marks_at, marks_of, without}
 use Rattle.topo.proofs.LayerLawsLemmas.LessEntries.{entries_of_less, items_of_less}
 use Rattle.topo.proofs.LayerLawsLemmas.RecutGeometries.{order}
 
@@ -62,7 +62,7 @@ pub seen_less : (m r : Layers) → seen (less m r) ≡ removing.less (marks_of m
 seen_less m r = ap (map_list seen_by.layer_of) (entries_of_less m r) ∙ layers_seen r (map.entries m)
 
 -- the geometries that are left are those that are marked
-pub geometries_seen : (marks : List (List Bool)) (ls : List LayerParts) → map_list layer_of (layers_left marks ls) ≡ removing.less marks (map_list layer_of ls)
+pub geometries_seen : (marks : List (List Bool)) (ls : List LayerParts) → map_list layer_of (remaining_layers marks ls) ≡ removing.less marks (map_list layer_of ls)
 geometries_seen [] ls = refl
 geometries_seen (marks ∷ more) [] = refl
 geometries_seen (marks ∷ more) (l ∷ ls) =
@@ -77,9 +77,9 @@ module _ (m r : Layers) (table : List (List Pos)) (ls : List LayerParts)
       (law.marked_features_are_a_part position_cmp (seen m) (marks_of m r) table (map_list layer_of ls) are).0
 
   -- the geometries that are left are those of what is left, by the arcs of the map
-  pub geometries_left : Pairwise (IsLayerOf position_cmp (JunctionOf (geometry_of m)) table) (seen (less m r)) (map_list layer_of (layers_left (marks_of m r) ls))
-  geometries_left =
-      subst (λ n. Pairwise (IsLayerOf position_cmp (JunctionOf (geometry_of m)) table) n (map_list layer_of (layers_left (marks_of m r) ls))) (sym (seen_less m r))
+  pub remaining_geometries : Pairwise (IsLayerOf position_cmp (JunctionOf (geometry_of m)) table) (seen (less m r)) (map_list layer_of (remaining_layers (marks_of m r) ls))
+  remaining_geometries =
+      subst (λ n. Pairwise (IsLayerOf position_cmp (JunctionOf (geometry_of m)) table) n (map_list layer_of (remaining_layers (marks_of m r) ls))) (sym (seen_less m r))
       (subst (Pairwise (IsLayerOf position_cmp (JunctionOf (geometry_of m)) table) (removing.less (marks_of m r) (seen m))) (sym (geometries_seen (marks_of m r) ls))
       (law.marked_features_are_a_part position_cmp (seen m) (marks_of m r) table (map_list layer_of ls) are).1)
 
@@ -89,11 +89,11 @@ module _ (m r : Layers) (table : List (List Pos)) (ls : List LayerParts)
     is_left = record { order = order; sound = are_sound m; arcs = arcs; part = less_is_part }
 
     -- an arc is kept where a geometry that is left uses it
-    pub kept_arcs : (k : ℕ) → IsKept position_cmp (geometry_of (less m r)) (geometry_of m) table k ↔ InLayers (map_list layer_of (layers_left (marks_of m r) ls)) k
+    pub kept_arcs : (k : ℕ) → IsKept position_cmp (geometry_of (less m r)) (geometry_of m) table k ↔ InLayers (map_list layer_of (remaining_layers (marks_of m r) ls)) k
     kept_arcs =
-        (law.kept_by_geometries position_cmp (seen m) (seen (less m r)) table is_left (map_list layer_of (layers_left (marks_of m r) ls)) geometries_left).0
+        (law.kept_by_geometries position_cmp (seen m) (seen (less m r)) table is_left (map_list layer_of (remaining_layers (marks_of m r) ls)) remaining_geometries).0
 
     -- a line that is left begins or ends where the list of a geometry that is left does
-    pub line_ends : (v : Pos) → IsLineEnd (geometry_of (less m r)) table v ↔ EndsInLayers table (map_list layer_of (layers_left (marks_of m r) ls)) v
+    pub line_ends : (v : Pos) → IsLineEnd (geometry_of (less m r)) table v ↔ EndsInLayers table (map_list layer_of (remaining_layers (marks_of m r) ls)) v
     line_ends =
-        (law.kept_by_geometries position_cmp (seen m) (seen (less m r)) table is_left (map_list layer_of (layers_left (marks_of m r) ls)) geometries_left).1
+        (law.kept_by_geometries position_cmp (seen m) (seen (less m r)) table is_left (map_list layer_of (remaining_layers (marks_of m r) ls)) remaining_geometries).1

@@ -27,15 +27,15 @@ use Rattle.topo.specs.declared.geom.Geom.{Geom}
 use Rattle.topo.proofs.Stitched.{IsEntryOf, entries_of}
 use Rattle.topo.specs.GeometryOrder.{HaveFeatures, LayersHaveFeatures, body_form, form_cmp}
 use Rattle.topo.specs.LayerLaws.Leaving.{from_on, info_to, is_first, layer_less, order_to, others}
-use Rattle.topo.specs.LayerLaws.Less.{layers_left, marks_at, marks_of}
+use Rattle.topo.specs.LayerLaws.Less.{remaining_layers, marks_at, marks_of}
 use Rattle.topo.proofs.LayerLawsLemmas.Ascending.{items_ascend}
 use Rattle.topo.proofs.FeatureOrder.{id_derived_is, shape_form, shapes_by_form, then_groups}
 use Rattle.topo.proofs.LayerLawsLemmas.MergedSets.{all_weaker}
 
 -- a geometry stands to a feature as the feature that it stitches to
-pub order_told : (arcs : List (List Pos)) (f h : Feature) (g : Geom) → IsFeatureOf arcs f g → feature_cmp f h ≡ order_to arcs g h
+pub order_means : (arcs : List (List Pos)) (f h : Feature) (g : Geom) → IsFeatureOf arcs f g → feature_cmp f h ≡ order_to arcs g h
 unfolding feature_cmp order_to
-order_told arcs f h g k =
+order_means arcs f h g k =
     then_groups (id_cmp f.id h.id) (slice_cmp nat_cmp f.props.text h.props.text) (shape_cmp f.shape h.shape)
     ∙ (λ i. ordering_then (ordering_then (id_cmp (k.id i) h.id) (slice_cmp nat_cmp (k.props i).text h.props.text)) (shapes_by_form f.shape h.shape i))
     ∙ (λ i. ordering_then (info_to g h) (form_cmp (shape_form arcs f.shape g.body k.shape i) (form_of h.shape)))
@@ -52,8 +52,8 @@ info_tells arcs g h r e n =
     decided Greater y k = refl
 
 -- from what the comparisons of ids and of properties answer
-pub info_told : (g : Geom) (h : Feature) (r x y : Ordering) → r ≡ ordering_then x y → x ≡ id.cmp-value.it g.id h.id → y ≡ slice_cmp nat_cmp g.props.text h.props.text → r ≡ info_to g h
-info_told g h r x y e p q = e ∙ (λ i. ordering_then ((p ∙ id_derived_is g.id h.id) i) (q i))
+pub info_means : (g : Geom) (h : Feature) (r x y : Ordering) → r ≡ ordering_then x y → x ≡ id.cmp-value.it g.id h.id → y ≡ slice_cmp nat_cmp g.props.text h.props.text → r ≡ info_to g h
+info_means g h r x y e p q = e ∙ (λ i. ordering_then ((p ∙ id_derived_is g.id h.id) i) (q i))
 
 module _ {K : Type 0} (R : K → K → Ordering) (o : IsTotalOrder R) where
   -- what is below all members of a list is none of them
@@ -160,7 +160,7 @@ module _ (arcs : List (List Pos)) (r : Layers) where
   layer_marked e l h =
       ap (λ gs. record { name = l.name; geometries = gs })
       (ap (λ n. others (order_to arcs) l.geometries (set.items (features_at r n))) (sym h.name)
-      ∙ pass_leaves feature_cmp feature_cmp_total (IsFeatureOf arcs) (order_to arcs) (λ f g p k. order_told arcs f k g p)
+      ∙ pass_leaves feature_cmp feature_cmp_total (IsFeatureOf arcs) (order_to arcs) (λ f g p k. order_means arcs f k g p)
       (set.items (features_at r e.0)) (set.items e.1) l.geometries (set.items (features_at r e.0))
       h.items (items_ascend e.1) (items_ascend (features_at r e.0)) (agree feature_cmp (set.items (features_at r e.0)) (set.items e.1))
       ∙ ap (λ ms. marked ms l.geometries)
@@ -168,7 +168,7 @@ module _ (arcs : List (List Pos)) (r : Layers) where
       (λ f. ap not (sym (contains-items (features_at r e.0) f))) (set.items e.1)))
 
   layers_marked : (es : List (List ℕ × Features)) (ls : List LayerParts) → Pairwise (IsEntryOf arcs) es ls →
-      map_list (layer_less arcs r) ls ≡ layers_left (map_list (marks_at r) es) ls
+      map_list (layer_less arcs r) ls ≡ remaining_layers (map_list (marks_at r) es) ls
   layers_marked [] [] h = refl
   layers_marked [] (l ∷ ls) h = absurd h
   layers_marked (e ∷ es) [] h = absurd h
@@ -178,7 +178,7 @@ module _ (arcs : List (List Pos)) (r : Layers) where
       λ i. here i ∷ more i
 
 -- the layers that the pass leaves are those that the marks leave
-pub pass_marks : (m r : Layers) (t : TopologyParts) → IsOf m t → map_list (layer_less t.arcs.arcs r) t.layers ≡ layers_left (marks_of m r) t.layers
+pub pass_marks : (m r : Layers) (t : TopologyParts) → IsOf m t → map_list (layer_less t.arcs.arcs r) t.layers ≡ remaining_layers (marks_of m r) t.layers
 pass_marks m r t h = layers_marked t.arcs.arcs r (map.entries m) t.layers (entries_of m t h)
 
 module _ (arcs : List (List Pos)) where

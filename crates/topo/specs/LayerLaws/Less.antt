@@ -45,10 +45,10 @@ abbrev pub marks_of : Layers → Layers → List (List Bool)
 marks_of m r = map_list (marks_at r) (map.entries m)
 
 -- layer by layer, those geometries that are marked
-abbrev pub layers_left : List (List Bool) → List LayerParts → List LayerParts
-layers_left [] ls = []
-layers_left (marks ∷ more) [] = []
-layers_left (marks ∷ more) (l ∷ ls) = record { name = l.name; geometries = marked marks l.geometries } ∷ layers_left more ls
+abbrev pub remaining_layers : List (List Bool) → List LayerParts → List LayerParts
+remaining_layers [] ls = []
+remaining_layers (marks ∷ more) [] = []
+remaining_layers (marks ∷ more) (l ∷ ls) = record { name = l.name; geometries = marked marks l.geometries } ∷ remaining_layers more ls
 
 -- a geometry by the arcs that the old ones are joined to: its id and its properties stay
 abbrev pub geometry_over_healed : List (List Pos) → Starts → Geom → Geom

@@ -2,7 +2,7 @@
 ghost use Rattle.arcs.specs.Steps.{step_cmp};
 ghost use Rattle.topo.specs.GeometryOrder.Lists.{lead_of, line_refs_cmp, ring_refs_cmp, starts_cmp, turned};
 ghost use Rattle.topo.specs.declared.geometry_order.least.LeastSteps as steps;
-ghost use Rattle.grid.specs.declared.pos.Pos.{Pos as place};
+ghost use Rattle.grid.specs.declared.pos.Pos.{Pos as index};
 ghost use Rattle.std.specs.Cmp.Lexicographic.{slice_cmp};
 ghost use Rattle.std.specs.Option.{option_cmp};
 ghost use Rattle.std.specs.Ordering.{is_lt};
@@ -75,16 +75,16 @@ fn line_order(arcs: &ArcTable, used: &[ArcRef], other: &[ArcRef]) -> Ordering
 fn turned_order(
     arcs: &ArcTable,
     used: &[ArcRef],
-    place: usize,
+    index: usize,
     other: &[ArcRef],
-    other_place: usize,
+    other_index: usize,
 ) -> Ordering
-    requires place { place ≤ length used.now }
-    requires other_place { other_place ≤ length other.now }
-    ensures { result ≡ starts_cmp arcs.now.arcs (turned used.now place) (turned other.now other_place) }
+    requires index { index ≤ length used.now }
+    requires other_index { other_index ≤ length other.now }
+    ensures { result ≡ starts_cmp arcs.now.arcs (turned used.now index) (turned other.now other_index) }
 {
-    let (front, back) = used.split_at(place);
-    let (other_front, other_back) = other.split_at(other_place);
+    let (front, back) = used.split_at(index);
+    let (other_front, other_back) = other.split_at(other_index);
     back.iter()
         .chain(front)
         .map(|arc| arcs.first_step(*arc))
@@ -114,7 +114,7 @@ pub(crate) trait ByArcs: Sized + Drop {
     /// What it is stitched from.
     type Used;
 
-    ghost refs_cmp: { List (List place) → List (Option steps.LeastSteps) → Self.Used → Self.Used → order_of };
+    ghost refs_cmp: { List (List index) → List (Option steps.LeastSteps) → Self.Used → Self.Used → order_of };
 
     fn order(view: &Ordered, used: &Self::Used, other: &Self::Used) -> Ordering
         ensures { result ≡ refs_cmp view.now.arcs.now.arcs view.now.least.now used.now other.now };

@@ -1,7 +1,7 @@
 //! The order of geometries over a table of arcs.
 ghost use Rattle.topo.specs.GeometryOrder.Least.{IsLeastOf, least_of};
 ghost use Rattle.topo.specs.GeometryOrder.Noded.{AreNoded};
-ghost use Rattle.topo.specs.GeometryOrder.Noted.{IsNotedFor};
+ghost use Rattle.topo.specs.GeometryOrder.Noted.{IsRecordedFor};
 ghost use Rattle.topo.specs.GeometryOrder.Sorting.{AreSortedOnce};
 ghost use Rattle.grid.specs.declared.pos.Pos.{Pos};
 ghost use Rattle.std.specs.Prelude.{◌≡◌, IfOk, List};
@@ -43,7 +43,7 @@ fn find_least(
 impl GeometryOrder {
     /// The order over any one table. Nothing is noted yet.
     pub fn new() -> GeometryOrder
-        ensures { (arcs : List (List Pos)) → IsNotedFor arcs result }
+        ensures { (arcs : List (List Pos)) → IsRecordedFor arcs result }
     {
         GeometryOrder { least: None }
     }
@@ -61,10 +61,10 @@ impl GeometryOrder {
         other: &Geom,
     ) -> Result<Ordering, OutOfMemory>
         requires noded { AreNoded arcs.now.arcs }
-        requires noted { IsNotedFor arcs.now.arcs self.old }
+        requires recorded { IsRecordedFor arcs.now.arcs self.old }
         requires there { HasFeature arcs.now.arcs geometry.now }
         requires other_there { HasFeature arcs.now.arcs other.now }
-        ensures noted { IsNotedFor arcs.now.arcs self.new }
+        ensures recorded { IsRecordedFor arcs.now.arcs self.new }
         ensures order { IfOk result (λ o. o ≡ geometry_cmp arcs.now.arcs geometry.now other.now) }
     {
         let order = kind_order(geometry, other);
@@ -96,8 +96,8 @@ impl GeometryOrder {
         arcs: &ArcTable,
         geometries: Vec<Geom>,
     ) -> Result<Vec<Geom>, OutOfMemory>
-        requires noted { IsNotedFor arcs.now.arcs self.old }
-        ensures noted { IsNotedFor arcs.now.arcs self.new }
+        requires recorded { IsRecordedFor arcs.now.arcs self.old }
+        ensures recorded { IsRecordedFor arcs.now.arcs self.new }
         ensures sorted { IfOk result (λ v. AreSortedOnce arcs.now.arcs geometries.items v.items) }
     {
         let least = find_least(alloc, arcs, self.least.take())?;

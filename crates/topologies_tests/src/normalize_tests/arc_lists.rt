@@ -156,7 +156,7 @@ fn has_verdicts(
     Ok(lists.line(alloc, used)? == row.line && lists.ring(alloc, used)? == row.ring)
 }
 
-fn is_told(alloc: Global, row: &Row) -> Result<bool, Fail> {
+fn is_answered(alloc: Global, row: &Row) -> Result<bool, Fail> {
     let arcs = Box::new(alloc, TextArcs::from_list(lists(alloc, row.arcs)?))?;
     let used = refs_of(alloc, row.list)?;
     let lists = ArcLists::new(alloc, &*arcs)?;
@@ -166,7 +166,7 @@ fn is_told(alloc: Global, row: &Row) -> Result<bool, Fail> {
 #[test]
 fn verdicts_of_lists(rt: HostRuntime) -> Result<(), Fail> {
     for row in ROWS {
-        assert!(rt; is_told(rt.alloc(), row)?, "{}", row.title);
+        assert!(rt; is_answered(rt.alloc(), row)?, "{}", row.title);
     }
     Ok(())
 }

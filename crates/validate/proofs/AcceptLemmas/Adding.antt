@@ -34,20 +34,20 @@ used_parted l k m n i (us, h, u) =
     ]
 
 module _ (t : Arcs) where
-  stand_before : (l k m n : List (List ArcRef)) → EachIsValid t (l ++ k) (m ++ n) → EachIsValid t l m
-  stand_before l k m n st = record {
+  are_before : (l k m n : List (List ArcRef)) → EachIsValid t (l ++ k) (m ++ n) → EachIsValid t l m
+  are_before l k m n st = record {
     each_line = λ us h. st.each_line us (Has-append_left us l k h);
     each_ring = λ us h. st.each_ring us (Has-append_left us m n h);
   }
 
-  stand_behind : (l k m n : List (List ArcRef)) → EachIsValid t (l ++ k) (m ++ n) → EachIsValid t k n
-  stand_behind l k m n st = record {
+  are_behind : (l k m n : List (List ArcRef)) → EachIsValid t (l ++ k) (m ++ n) → EachIsValid t k n
+  are_behind l k m n st = record {
     each_line = λ us h. st.each_line us (Has-append_right us l k h);
     each_ring = λ us h. st.each_ring us (Has-append_right us m n h);
   }
 
-  stand_both : (l k m n : List (List ArcRef)) → EachIsValid t l m → EachIsValid t k n → EachIsValid t (l ++ k) (m ++ n)
-  stand_both l k m n st su = record {
+  are_both : (l k m n : List (List ArcRef)) → EachIsValid t l m → EachIsValid t k n → EachIsValid t (l ++ k) (m ++ n)
+  are_both l k m n st su = record {
     each_line = λ us h. elim (Has-append us l k h) [ inl a ↦ st.each_line us a | inr a ↦ su.each_line us a ];
     each_ring = λ us h. elim (Has-append us m n h) [ inl a ↦ st.each_ring us a | inr a ↦ su.each_ring us a ];
   }
@@ -65,7 +65,7 @@ module _ (t : Arcs) where
   added_both : (l k m n : List (List ArcRef)) (b c : Bool) (s u w : ListsSeen) → b ≡ true → AreAdded t l m b s u → AreAdded t k n c u w → AreAdded t (l ++ k) (m ++ n) c s w
   added_both l k m n b c s u w e h g = record {
     len = g.len ∙ h.len;
-    stand = ((λ f. stand_both l k m n (h.stand.0 e) (g.stand.0 f)), (λ st. g.stand.1 (stand_behind l k m n st)));
+    stand = ((λ f. are_both l k m n (h.stand.0 e) (g.stand.0 f)), (λ st. g.stand.1 (are_behind l k m n st)));
     used = λ f i lt. (
       (λ x. elim ((g.used f i (subst (λ z. i < z) (sym h.len) lt)).0 x) [
         | inl y ↦ elim ((h.used e i lt).0 y) [ inl z ↦ inl z | inr z ↦ inr (used_left l k m n i z) ]
@@ -87,7 +87,7 @@ module _ (t : Arcs) where
   added_not : (l k m n : List (List ArcRef)) (b : Bool) (s u : ListsSeen) → b ≡ false → AreAdded t l m b s u → AreAdded t (l ++ k) (m ++ n) false s u
   added_not l k m n b s u e h = record {
     len = h.len;
-    stand = ((λ f. absurd cc), (λ st. absurd (let x : false ≡ true = sym e ∙ h.stand.1 (stand_before l k m n st) in cc)));
+    stand = ((λ f. absurd cc), (λ st. absurd (let x : false ≡ true = sym e ∙ h.stand.1 (are_before l k m n st) in cc)));
     used = λ f i lt. absurd cc;
     ends = λ f. absurd cc;
   }
@@ -116,14 +116,14 @@ module _ (t : Arcs) where
   -- one line's list is added, or it doesn't stand
   pub line_added : (us : List ArcRef) (p q : Pos) (s u : ListsSeen) → IsValidLine t.arcs (table_as_map t) us → line_ends t.arcs us ≡ p ∷ (q ∷ []) → u.used ≡ marks_set true s.used us →
       u.ends.items ≡ (s.ends.items ++ (p ∷ [])) ++ (q ∷ []) → AreAdded t (us ∷ []) [] true s u
-  line_added us p q s u st run is told = record {
+  line_added us p q s u st run is meant = record {
     len = ap length is ∙ marks_set_long true s.used us;
     stand = ((λ e. one_line us st), (λ _. refl));
     used = λ e k lt.
         subst (λ z. (get_or z k false ≡ true) ↔ ((get_or s.used k false ≡ true) ⊎ IsUsed (us ∷ []) [] k)) (sym is)
         (marked s.used (us ∷ []) [] us (inl (inl refl)) (λ vs h. elim h [ inl a ↦ alone us vs a | inr a ↦ absurd a ]) k lt);
     ends = λ e.
-        told
+        meant
         ∙ append_assoc s.ends.items (p ∷ []) (q ∷ [])
         ∙ ap (λ z. s.ends.items ++ z) (sym run ∙ sym (append-nil (line_ends t.arcs us)));
   }
@@ -229,15 +229,15 @@ module _ (t : Arcs) where
       (λ st. absurd (let f : false ≡ true = sym unset ∙ is ∙ used_all b e h st.used in cc)),
     )
 
-    pub all_told : (b all meet : Bool) (ps : List Pos) → b ≡ true → AreAdded t ls ms b s u → s.ends.items ≡ [] → all ≡ list_all (λ b. b) u.used → all ≡ true →
+    pub all_means : (b all meet : Bool) (ps : List Pos) → b ≡ true → AreAdded t ls ms b s u → s.ends.items ≡ [] → all ≡ list_all (λ b. b) u.used → all ≡ true →
         ps ≡ u.ends.items → ((meet ≡ true) ↔ EndsMeet t.arcs (table_as_map t) ps) → (meet ≡ true) ↔ AreValidLists t ls ms
-    all_told b all meet ps e h begun is each_set borrowed told =
-        let same : ps ≡ gathered (line_ends t.arcs) ls = borrowed ∙ h.ends e ∙ ap (λ z. z ++ gathered (line_ends t.arcs) ls) begun in (
+    all_means b all meet ps e h started is each_set borrowed meant =
+        let same : ps ≡ gathered (line_ends t.arcs) ls = borrowed ∙ h.ends e ∙ ap (λ z. z ++ gathered (line_ends t.arcs) ls) started in (
           (λ f. record {
             each_line = (h.stand.0 e).each_line;
             each_ring = (h.stand.0 e).each_ring;
             used = all_used b e h (sym is ∙ each_set);
-            ends = subst (EndsMeet t.arcs (table_as_map t)) same (told.0 f);
+            ends = subst (EndsMeet t.arcs (table_as_map t)) same (meant.0 f);
           }),
-          (λ st. told.1 (subst (EndsMeet t.arcs (table_as_map t)) (sym same) st.ends)),
+          (λ st. meant.1 (subst (EndsMeet t.arcs (table_as_map t)) (sym same) st.ends)),
         )

@@ -130,9 +130,9 @@ module _ (arcs : List (List Pos)) where
 
 pub layers_are_the_maps : law.LayersAreTheMaps
 layers_are_the_maps t ls st m is =
-    let told = lists_are_the_maps t st.apart (layers_lines ls) (layers_rings ls) st.lists (geometry_of m) (lists t.arcs m ls is) in
+    let meant = lists_are_the_maps t st.apart (layers_lines ls) (layers_rings ls) st.lists (geometry_of m) (lists t.arcs m ls is) in
     record {
-      table = told.1;
+      table = meant.1;
       layers = layers t.arcs (JunctionOf (geometry_of m)) (map.entries m) ls is
-          (subst (λ w. Pairwise (IsRingList position_cmp (JunctionOf (geometry_of m)) t.arcs) w (layers_rings ls)) (sym (entries_forms rings_in (map.entries m))) told.2);
+          (subst (λ w. Pairwise (IsRingList position_cmp (JunctionOf (geometry_of m)) t.arcs) w (layers_rings ls)) (sym (entries_forms rings_in (map.entries m))) meant.2);
     }

@@ -12,7 +12,7 @@ use Rattle.shapes.specs.Parts.{spelled_text}
 use Rattle.validate.proofs.Steps.{all_from, all_has}
 use Rattle.theory.specs.Arcs.{Ascends}
 use Rattle.theory.specs.Lists.{Has}
-use Rattle.topo.proofs.FeatureOrder.{features_stand}
+use Rattle.topo.proofs.FeatureOrder.{features_hold}
 use Rattle.topo.specs.Features.{HasFeature}
 use Rattle.topo.specs.GeometryOrder.{HaveFeatures, LayersHaveFeatures, geometry_cmp}
 use Rattle.topo.specs.Parts.{LayerParts}
@@ -77,15 +77,15 @@ module _ (arcs : List (List Pos)) where
   -- geometries, as the features that they stitch to
   goes_on : (a b c : Geom) → HasFeature arcs a → HasFeature arcs b → HasFeature arcs c → geometry_cmp arcs a b ≡ Less → geometry_cmp arcs b c ≡ Less → geometry_cmp arcs a c ≡ Less
   goes_on a b c (f, h) (g, k) (i, m) e d =
-      sym (features_stand arcs f i a c h m)
-      ∙ feature_cmp_total.trans f g i (features_stand arcs f g a b h k ∙ e) (features_stand arcs g i b c k m ∙ d)
+      sym (features_hold arcs f i a c h m)
+      ∙ feature_cmp_total.trans f g i (features_hold arcs f g a b h k ∙ e) (features_hold arcs g i b c k m ∙ d)
 
   geometries_ascend : (gs : List Geom) → HaveFeatures arcs gs → rises (geometry_cmp arcs) gs ≡ true → Ascends (geometry_cmp arcs) gs
   geometries_ascend gs h = rising_ascends (geometry_cmp arcs) (HasFeature arcs) goes_on gs h
 
   -- the code's answers tell the order
-  pub order_told : (ls : List LayerParts) (b : Bool) → LayersHaveFeatures arcs ls → rises name_cmp ls ≡ true → b ≡ each_rises arcs ls → (b ≡ true) ↔ InOrder arcs ls
-  order_told ls b h n e = (
+  pub order_means : (ls : List LayerParts) (b : Bool) → LayersHaveFeatures arcs ls → rises name_cmp ls ≡ true → b ≡ each_rises arcs ls → (b ≡ true) ↔ InOrder arcs ls
+  order_means ls b h n e = (
     (λ t. record {
       names = names_ascend ls n;
       geometries = λ l k. geometries_ascend l.geometries (all_at (λ l. HaveFeatures arcs l.geometries) ls l h k)

@@ -10,7 +10,7 @@ use Rattle.theory.specs.Lists.{Has}
 use Rattle.topo.specs.Parts.{LayerParts}
 use Rattle.topo.specs.declared.geom.Geom.{Geom}
 use Rattle.topo.proofs.SameGeometries.{geometry_same}
-use Rattle.topo.proofs.GeometryOrderLemmas.KeysStand.{each_of, one_of}
+use Rattle.topo.proofs.GeometryOrderLemmas.KeysHold.{each_of, one_of}
 use Rattle.topo.specs.GeometryOrder.Sorting.{AreSortedOnce, same_geometry}
 use Rattle.validate.specs.Accept.Laws.{HaveI64}
 use Rattle.validate.specs.Accept.Sorting.{AreReordered, AreSorted, IsReordered, IsSortedLayer}

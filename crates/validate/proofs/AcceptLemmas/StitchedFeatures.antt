@@ -58,8 +58,8 @@ least_ring (x ∷ l) k =
     least (y ∷ m) q = (least_list_found list_cmp (lists_total position_total) (rotations (x ∷ l)) (y ∷ m) (rotation_listed (x ∷ l) y m q)).1
 
 -- lists that stitch to rings stitch to them begun where they begin
-begun : (arcs : List (List Pos)) (lines rings : List (List ArcRef)) (g : Geometry Pos) → AreListsOf arcs lines rings g → AreTurnedListsOf arcs lines rings g
-begun arcs lines rings g are = record {
+started : (arcs : List (List Pos)) (lines rings : List (List ArcRef)) (g : Geometry Pos) → AreListsOf arcs lines rings g → AreTurnedListsOf arcs lines rings g
+started arcs lines rings g are = record {
   of_lines = are.of_lines;
   of_rings = Pairwise-weaker (λ r us. StitchTo arcs us (closed r)) (λ r us. StitchAround arcs us r) (λ r us s. (r, ([], r, refl, sym (append-nil r)), s)) g.rings rings are.of_rings;
 }
@@ -69,7 +69,7 @@ module _ (t : Arcs) (ls : List LayerParts) (st : AreValidLayers t ls) where
   a_map = lists_make_a_map t st.apart (layers_lines ls) (layers_rings ls) st.lists
 
   sound : IsSound a_map.0
-  sound = (lists_are_the_maps t st.apart (layers_lines ls) (layers_rings ls) st.lists a_map.0 (begun t.arcs (layers_lines ls) (layers_rings ls) a_map.0 a_map.1)).0
+  sound = (lists_are_the_maps t st.apart (layers_lines ls) (layers_rings ls) st.lists a_map.0 (started t.arcs (layers_lines ls) (layers_rings ls) a_map.0 a_map.1)).0
 
   line_of : (us : List ArcRef) → Has us (layers_lines ls) → (l : the_line.Line) × IsLineOf t.arcs l us
   line_of us h =

@@ -21,7 +21,7 @@ use Rattle.topo.specs.Features.{AreFeaturesOf, IsFeatureOf}
 use Rattle.topo.specs.GeometryOrder.{HaveFeatures, LayersHaveFeatures, geometry_cmp}
 use Rattle.topo.specs.Parts.{LayerParts}
 use Rattle.topo.specs.declared.geom.Geom.{Geom}
-use Rattle.topo.proofs.FeatureOrder.{features_stand}
+use Rattle.topo.proofs.FeatureOrder.{features_hold}
 use Rattle.validate.specs.Accept.Laws as law
 use Rattle.validate.specs.Accept.Laws.{AreStitched, IsStitched}
 use Rattle.validate.specs.Accept.Order.{name_cmp}
@@ -38,7 +38,7 @@ module _ (arcs : List (List Pos)) where
   features_below f g h [] [] k a = tt
   features_below f g h [] (y ∷ gs) k a = absurd k
   features_below f g h (e ∷ fs) [] k a = absurd k
-  features_below f g h (e ∷ fs) (y ∷ gs) k a = (features_stand arcs f e g y h k.0 ∙ a y (inl refl), features_below f g h fs gs k.1 (λ z i. a z (inr i)))
+  features_below f g h (e ∷ fs) (y ∷ gs) k a = (features_hold arcs f e g y h k.0 ∙ a y (inl refl), features_below f g h fs gs k.1 (λ z i. a z (inr i)))
 
   features_ascend : (fs : List Feature) (gs : List Geom) → AreFeaturesOf arcs fs gs → Ascends (geometry_cmp arcs) gs → IsStrictlySortedBy feature_cmp fs
   unfolding IsStrictlySortedBy

@@ -47,8 +47,8 @@ apart_decides t ls b is sorted e = ((λ h. absurd (no h)), (λ h. sym e ∙ (is 
 
 -- where the arcs are not in order, nothing does
 pub order_refuses : (arcs : List (List Pos)) (ls : List LayerParts) (b : Bool) → (b ≡ true) ↔ AreInOrder arcs → b ≡ false → ¬ AreValidInOrder (table_of arcs ls) ls
-order_refuses arcs ls b told e h =
-    let t : b ≡ true = told.1 (record { sorted = h.stand.apart.sorted; forward = h.stand.apart.forward }) in
+order_refuses arcs ls b meant e h =
+    let t : b ≡ true = meant.1 (record { sorted = h.stand.apart.sorted; forward = h.stand.apart.forward }) in
     let no : true ≡ false = sym t ∙ e in
     cc
 

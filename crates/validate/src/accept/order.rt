@@ -1,6 +1,6 @@
 //! Whether layers are in order: their names, and in each the features of its geometries.
 ghost use Rattle.topo.specs.GeometryOrder.Noded.{AreNoded};
-ghost use Rattle.topo.specs.GeometryOrder.Noted.{IsNotedFor};
+ghost use Rattle.topo.specs.GeometryOrder.Noted.{IsRecordedFor};
 ghost use Rattle.std.specs.Prelude.{◌≡◌, ◌↔◌, true, IfOk};
 ghost use Rattle.validate.specs.Accept.Order.{InOrder, each_rises, name_cmp, rises};
 ghost use Rattle.topo.specs.GeometryOrder.{HaveFeatures, LayersHaveFeatures, geometry_cmp};
@@ -43,9 +43,9 @@ fn geometries_rise(
     geometries: &[Geom],
 ) -> Result<bool, OutOfMemory>
     requires noded { AreNoded table.now.arcs }
-    requires noted { IsNotedFor table.now.arcs order.old }
+    requires recorded { IsRecordedFor table.now.arcs order.old }
     requires there { HaveFeatures table.now.arcs geometries.now }
-    ensures noted { IsNotedFor table.now.arcs order.new }
+    ensures recorded { IsRecordedFor table.now.arcs order.new }
     ensures rise { IfOk result (λ b. b ≡ rises (geometry_cmp table.now.arcs) geometries.now) }
 {
     let Some((first, others)) = geometries.split_first() else {

@@ -1,6 +1,6 @@
 //! Layers with their geometries sorted.
 ghost use Rattle.std.specs.Prelude.{IfOk};
-ghost use Rattle.topo.specs.GeometryOrder.Noted.{IsNotedFor};
+ghost use Rattle.topo.specs.GeometryOrder.Noted.{IsRecordedFor};
 ghost use Rattle.validate.specs.Accept.Sorting.{AreSorted, IsSortedLayer};
 
 use chains::table::ArcTable;
@@ -15,8 +15,8 @@ fn layer_sorted(
     order: &mut GeometryOrder,
     layer: Layer,
 ) -> Result<Layer, OutOfMemory>
-    requires noted { IsNotedFor arcs.now.arcs order.old }
-    ensures noted { IsNotedFor arcs.now.arcs order.new }
+    requires recorded { IsRecordedFor arcs.now.arcs order.old }
+    ensures recorded { IsRecordedFor arcs.now.arcs order.new }
     ensures sorted { IfOk result (λ l. IsSortedLayer arcs.now.arcs layer l) }
 {
     let (name, geometries) = layer.into_parts();

@@ -6,7 +6,7 @@ use chains::ordered::is_rising;
 use chains::{ArcRef, ArcTable, Piece, VisitIndex, cut_ring, turn_ring};
 use grid::{Grid, Pos};
 use merging::shard::same_grid;
-use refused_calls::comparing::{are_used, stand_at};
+use refused_calls::comparing::{are_used, are_at};
 use refused_calls::handed::Handed;
 use refused_calls::inputs::{built, is_of, read};
 use refused_calls::outcome::Tally;
@@ -23,7 +23,7 @@ use topo::{ArcSlice, Body, Geom, Layer, Topology, Walk, kind_order};
 const SHARED: Places = &[(1, 0), (1, 1)];
 
 fn is_shared_side(piece: &Piece) -> bool {
-    stand_at(piece.chain(), SHARED) && !piece.reversed() && !piece.is_free()
+    are_at(piece.chain(), SHARED) && !piece.reversed() && !piece.is_free()
 }
 
 /// The ring of the first square is its shared side, and then the other sides, backwards.
@@ -48,7 +48,7 @@ fn finds(topology: &Topology, pieces: &[Piece]) -> bool {
 
 fn has_arc(topology: &Topology) -> bool {
     match topology.arcs().arc(1) {
-        Some(arc) => stand_at(arc, SHARED) && topology.arcs().arc(3).is_none(),
+        Some(arc) => are_at(arc, SHARED) && topology.arcs().arc(3).is_none(),
         None => false,
     }
 }

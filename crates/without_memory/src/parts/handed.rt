@@ -4,7 +4,7 @@ use crate::square::SQUARE;
 use grid::Pos;
 use lines::position_filter::PositionFilter;
 use lines::text::JsonText;
-use refused_calls::comparing::stand_at;
+use refused_calls::comparing::are_at;
 use refused_calls::handed::Handed;
 use refused_calls::inputs::positions;
 use refused_calls::outcome::Tally;
@@ -31,7 +31,7 @@ fn memory_sink(alloc: Global) -> Option<Kept> {
 
 fn keeps_places(places: Vec<Pos>) -> bool {
     let items = Items::from_vec(places);
-    stand_at(items.as_slice(), SQUARE) && stand_at(items.into_vec().as_slice(), SQUARE)
+    are_at(items.as_slice(), SQUARE) && are_at(items.into_vec().as_slice(), SQUARE)
 }
 
 fn marks(mut bits: PositionFilter) -> bool {

@@ -6,7 +6,7 @@ use faults::{Fault, FaultKind};
 use grid::{Axis, AxisFault, Grid, GridFault, Pos};
 use lines::neighbours::has_equal_neighbours;
 use lines::pair::PositionPair;
-use lines::position_filter::place_among;
+use lines::position_filter::index_among;
 use refused_calls::handed::Handed;
 use refused_calls::outcome::Tally;
 use refused_calls::rows;
@@ -61,7 +61,7 @@ impl Two {
             "PositionPair::ends" => self.has_ends(),
             "Segment::new" => self.is_no_segment(),
             "Segment::ends" => self.is_segment(),
-            "lines::place_among" => place_among(1, self.low) == 0,
+            "lines::index_among" => index_among(1, self.low) == 0,
         );
     }
 }

@@ -2,7 +2,7 @@
 
 use crate::square::{SQUARE, ring};
 use grid::{Grid, Pos};
-use refused_calls::comparing::stand_at;
+use refused_calls::comparing::are_at;
 use refused_calls::handed::Handed;
 use refused_calls::inputs::{positions, read};
 use refused_calls::outcome::Tally;
@@ -55,9 +55,9 @@ fn nests_in_two(value: &Value) -> bool {
 impl Values {
     fn test_each(&self, rt: &HostRuntime, tally: &mut Tally) {
         rows!(rt, tally;
-            "Items::as_slice" => stand_at(self.places.as_slice(), SQUARE),
-            "Line::positions" => stand_at(self.line.positions(), SQUARE),
-            "Ring::vertices" => stand_at(self.ring.vertices(), VERTICES),
+            "Items::as_slice" => are_at(self.places.as_slice(), SQUARE),
+            "Line::positions" => are_at(self.line.positions(), SQUARE),
+            "Ring::vertices" => are_at(self.ring.vertices(), VERTICES),
             "shapes::has_fraction" => has_no_fraction(&self.value, &self.fraction),
             "shapes::nests_within" => nests_in_two(&self.value),
         );
@@ -204,7 +204,7 @@ impl Features {
     fn test_each(&self, rt: &HostRuntime, tally: &mut Tally) {
         match Placed::of(self) {
             Some(placed) => placed.test(rt, tally, self),
-            None => tally.note_right(rt, "features", false),
+            None => tally.record_right(rt, "features", false),
         }
         rows!(rt, tally;
             "FeatureMap::layer" => has_layer(&self.map),

@@ -17,7 +17,7 @@ pub index_mut-requires : goal.index_mut-requires
 index_mut-requires c =
     let x = c.in-Some.placed in
     let there = c.loop-placed.invariant.there x (subst (Has x) (sym c.in-Some.ensures.steps.0) (inl refl)) in
-    subst (λ n. x.place < n) (sym c.loop-placed.refs.ok.0) (subst (λ n. x.place < n) (sym c.loop-placed.invariant.len) (c.requires.placed.within x there))
+    subst (λ n. x.index < n) (sym c.loop-placed.refs.ok.0) (subst (λ n. x.index < n) (sym c.loop-placed.invariant.len) (c.requires.placed.within x there))
 
 pub arc_behind-requires : goal.arc_behind-requires
 arc_behind-requires c = λ e.
@@ -50,7 +50,7 @@ loop-placed-preserved c =
     record {
       all = all;
       key = ap Some (c.requires.placed.keys x there ∙ ap key_of (sym (c.in_ok-arc_behind.ensures.positions ∙ ap positions_of c.of.ensures)));
-      len = length-set c.loop-placed.refs.items x.place used ∙ was.len;
+      len = length-set c.loop-placed.refs.items x.index used ∙ was.len;
       there = λ y h. was.there y (subst (Has y) (sym steps) (inr h));
       put = ref_put l more c.loop-placed.refs.items x used c.requires.placed there was.len is
           (subst (λ w. (y : Placed) → Has y l → LeftOrPut (arcs_of l) w c.loop-placed.refs.items y) steps was.put);

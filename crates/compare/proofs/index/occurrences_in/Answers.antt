@@ -1,11 +1,11 @@
 use Rattle.std.proofs.Common.{arith, length, subst, ◌≡◌, ◌∙◌, ◌<◌}
 use Rattle.compare.specs.Indexed.{occurrences_of}
 use Rattle.compare.specs.Keyed.{keys_in}
-use Rattle.compare.proofs.Standings.{stand_none}
+use Rattle.compare.proofs.Standings.{hold_none}
 use Rattle.compare.proofs.index.occurrences_in.Goals as goal
 
 pub loop-number-init : goal.loop-number-init
-loop-number-init c = stand_none (keys_in c.args.keys.now) c.new-occurrences.result c.new-occurrences.ensures.empty
+loop-number-init c = hold_none (keys_in c.args.keys.now) c.new-occurrences.result c.new-occurrences.ensures.empty
 
 pub at-requires : goal.at-requires
 at-requires c = subst (λ n. c.loop-number.number < n) c.len-number-end.ensures c.loop-number-test.true

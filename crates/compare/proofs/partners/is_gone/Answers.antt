@@ -4,7 +4,7 @@ use Rattle.lines.proofs.Dropping.{item_at}
 use Rattle.theory.specs.Lists.{Has}
 use Rattle.compare.specs.Keyed.{keys_in}
 use Rattle.compare.specs.Placed.{IsGoneAt}
-use Rattle.compare.proofs.Fated.{gone_by, none_is, none_told, some_at, stays}
+use Rattle.compare.proofs.Fated.{gone_by, none_is, none_means, some_at, stays}
 use Rattle.compare.proofs.partners.is_gone.Goals as goal
 
 pub returns-then-has : goal.returns-then-has
@@ -23,4 +23,4 @@ returns c = λ own gs ks is.
     (item_at c.args.own.now.geometries.now c.args.number c.index-geometries-number.result c.requires.geometry c.index-geometries-number.is) c.partner.result
     (λ there. let f : true ≡ false = sym ((c.has.ensures gs ks is).1 there) ∙ c.if-has.false in cc)
     (some_at c.args.own.now c.args.others.now c.args.number c.partner.result own gs ks is c.partner.ensures.some)
-    (none_told c.partner.result (λ none. none own gs ks is) c.partner.ensures.none))
+    (none_means c.partner.result (λ none. none own gs ks is) c.partner.ensures.none))

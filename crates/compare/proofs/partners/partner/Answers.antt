@@ -4,7 +4,7 @@ use Rattle.lines.proofs.Dropping.{item_at}
 use Rattle.compare.specs.Keyed.{keys_in}
 use Rattle.theory.specs.Lists.{Has}
 use Rattle.compare.proofs.Tables.{one_at}
-use Rattle.compare.proofs.Fated.{none_is, none_by_others, none_by_own, none_told, partners_by, when_none, when_some}
+use Rattle.compare.proofs.Fated.{none_is, none_by_others, none_by_own, none_means, partners_by, when_none, when_some}
 use Rattle.compare.proofs.partners.partner.Goals as goal
 
 pub returns-then-has-clause-none : goal.returns-then-has-clause-none
@@ -31,7 +31,7 @@ returns-clause-some c =
 
 pub returns-clause-none : goal.returns-clause-none
 returns-clause-none c =
-    none_told c.only_with-2.result
+    none_means c.only_with-2.result
     (λ none own gs ks is j. none_by_others c.args.own.now.geometries.now gs (keys_in c.args.own.now.keys) ks c.args.number c.index-geometries-number.result c.at-key.result.now
     (item_at c.args.own.now.geometries.now c.args.number c.index-geometries-number.result c.requires.geometry c.index-geometries-number.is) c.at-key.ensures (none gs ks is) j)
     c.only_with-2.ensures.none

@@ -18,4 +18,4 @@ returns-else-depth-eq0 c =
     let first : c.args.reader.now ≡ token_of c.in-Some.token ∷ mid = grind arith in
     let opens = first ∙ ap (λ k. token_of k ∷ mid) c.in-BeginObject.is in
     let some : 0 < c.args.depth = omega arith in
-    IfOk-weaker c.read_begun.result _ _ (λ g r. (object r.0, object_gives c.args.depth c.args.reader.now mid c.read_begun.new.reader r.0 some opens r.1, inr r.2)) c.read_begun.ensures
+    IfOk-weaker c.read_started.result _ _ (λ g r. (object r.0, object_gives c.args.depth c.args.reader.now mid c.read_started.new.reader r.0 some opens r.1, inr r.2)) c.read_started.ensures

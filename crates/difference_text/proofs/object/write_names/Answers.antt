@@ -7,11 +7,11 @@ use Rattle.difference_text.proofs.object.write_names.Goals as goal
 pub loop-changes-preserved : goal.loop-changes-preserved
 loop-changes-preserved g c =
     left_step _ c.loop-changes.invariant
-    (names_step (layer_report c.args.view.difference.now.is_keyed c.args.view.old.now c.args.view.new.now) c.args.is_added c.loop-changes.is_behind _ _ _ c.in-Some.ensures.cases.0 c.layer.ensures c.is_missing-is_told.ensures
+    (names_step (layer_report c.args.view.difference.now.is_keyed c.args.view.old.now c.args.view.new.now) c.args.is_added c.loop-changes.is_behind _ _ _ c.in-Some.ensures.cases.0 c.layer.ensures c.is_missing-is_answered.ensures
     c.is_either-is_behind.ensures) c.in-Ok.ensures.whole
 
 pub returns-in-Err-clause-part : goal.returns-in-Err-clause-part
 returns-in-Err-clause-part g c =
     left_part _ c.loop-changes.invariant
-    (names_step (layer_report c.args.view.difference.now.is_keyed c.args.view.old.now c.args.view.new.now) c.args.is_added c.loop-changes.is_behind _ _ _ c.in-Some.ensures.cases.0 c.layer.ensures c.is_missing-is_told.ensures
+    (names_step (layer_report c.args.view.difference.now.is_keyed c.args.view.old.now c.args.view.new.now) c.args.is_added c.loop-changes.is_behind _ _ _ c.in-Some.ensures.cases.0 c.layer.ensures c.is_missing-is_answered.ensures
     refl) c.in-Err.ensures.part

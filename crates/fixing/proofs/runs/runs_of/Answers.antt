@@ -6,12 +6,12 @@ use Rattle.lines.specs.Turned.{position_cmp}
 use Rattle.lines.proofs.Dropping.{drop_item}
 use Rattle.lines.proofs.Positions.{derived_is}
 use Rattle.fixing.specs.Cutting.{runs_left}
-use Rattle.fixing.proofs.RunSteps.{all_told, none_told}
+use Rattle.fixing.proofs.RunSteps.{all_means, none_means}
 use Rattle.fixing.proofs.runs.runs_of.Goals as goal
 
 pub returns-in_default : goal.returns-in_default
 returns-in_default c =
-    none_told c.new.result.items c.as_slice.result.now (collapsed position_cmp c.args.positions.items) c.new.ensures.items c.in_default.ensures.cases
+    none_means c.new.result.items c.as_slice.result.now (collapsed position_cmp c.args.positions.items) c.new.ensures.items c.in_default.ensures.cases
     (c.as_slice.ensures.value ∙ dedup_is _ _ _ c.dedup.ensures.filtered ∙ ap (λ same. dedup same c.args.positions.items) derived_is)
 
 pub loop-next-init : goal.loop-next-init
@@ -25,7 +25,7 @@ loop-next-preserved c =
 
 pub returns : goal.returns
 returns c =
-    all_told c.into_runs.result (λ runs. runs.items) (runs_left c.loop-next.way) c.as_slice.result.now c.in-Some.others.now (collapsed position_cmp c.args.positions.items)
+    all_means c.into_runs.result (λ runs. runs.items) (runs_left c.loop-next.way) c.as_slice.result.now c.in-Some.others.now (collapsed position_cmp c.args.positions.items)
     c.loop-next.next-index c.in-Some.first.now c.into_runs.ensures c.loop-next-test.false (c.loop-next.invariant ∙ c.in_ok-way.ensures c.in-Some.others.now)
     c.in-Some.ensures.cases.0
     (c.as_slice.ensures.value ∙ dedup_is _ _ _ c.dedup.ensures.filtered ∙ ap (λ same. dedup same c.args.positions.items) derived_is)

@@ -1,5 +1,5 @@
 use Rattle.std.proofs.Common.{[], ◌∷◌, ◌++◌, refl, sym, ap, ◌∙◌, subst}
-use Rattle.lines.proofs.Retracing.{all_gone, none_gone, step_new, step_noted, IsGone}
+use Rattle.lines.proofs.Retracing.{all_gone, none_gone, step_new, step_recorded, IsGone}
 use Rattle.lines.proofs.visited.ends_of_repeated.Goals.{then-go_on+in_ok-push+in_ok-push-2, else-go_on}
 use Rattle.lines.proofs.visited.ends_of_repeated.Goals as goal
 
@@ -12,7 +12,7 @@ loop-next-init c =
 pub loop-next-preserved : goal.loop-next-preserved
 loop-next-preserved c = elim c.if-go_on.branch [
   | then-go_on+in_ok-push+in_ok-push-2 w ↦
-      step_noted c.loop-next.way c.go_on.new.self c.loop-next.ends.items c.if-go_on.ends.items c.args.positions.now c.in-Some.others.now
+      step_recorded c.loop-next.way c.go_on.new.self c.loop-next.ends.items c.if-go_on.ends.items c.args.positions.now c.in-Some.others.now
       c.loop-next.next-index c.loop-next.way.here c.next-item.result c.go_on.result c.loop-next-test.true c.next-item.is c.go_on.ensures refl
       (ap (λ v. v.items) w.ends-is ∙ w.in_ok-push-2.ensures.items ∙ ap (λ l. l ++ (c.next-item.result ∷ [])) w.in_ok-push.ensures.items)
       c.loop-next.invariant

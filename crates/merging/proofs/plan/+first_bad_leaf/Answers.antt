@@ -5,7 +5,7 @@ use Rattle.std.specs.List.{flat_map}
 use Rattle.std.proofs.lemmas.Bool.{cond_below, cond_above}
 use Rattle.merging.specs.Leaves.{leaves, first_outside}
 use Rattle.merging.proofs.PlanSizes.{size}
-use Rattle.merging.proofs.LeafLemmas.{leaf_read, index_passed, leaf_told, right_told, flat_pop, sum_pop}
+use Rattle.merging.proofs.LeafLemmas.{leaf_read, index_passed, leaf_means, right_means, flat_pop, sum_pop}
 use Rattle.merging.proofs.plan.+first_bad_leaf.Goals as goal
 use Rattle.merging.proofs.plan.+first_bad_leaf.Goals.{then-index-count, else-index-count}
 
@@ -32,13 +32,13 @@ loop-rest-preserved-then-index-count-2 t c = (
 
 pub loop-rest-preserved-in-Leaf-2 : goal.loop-rest-preserved-in-Leaf-2
 loop-rest-preserved-in-Leaf-2 t c = (
-  leaf_told c.args.count c.in-Leaf-deref.index _ (leaves c.in-Node.left.value) (leaves c.in-Node.right.value) _ _ _ (rw c.in-Node.is at c.loop-rest.invariant.0)
+  leaf_means c.args.count c.in-Leaf-deref.index _ (leaves c.in-Node.left.value) (leaves c.in-Node.right.value) _ _ _ (rw c.in-Node.is at c.loop-rest.invariant.0)
       (ap leaves (sym c.deref.ensures ∙ c.in-Leaf-deref.is)) (ap leaves c.deref-rest-in-Leaf-2.ensures) c.if-index-count-2.false,
   omega (arith, c.loop-rest.invariant.1, ap size c.in-Node.is, ap size c.deref-rest-in-Leaf-2.ensures),
 )
 
 pub loop-rest-preserved : goal.loop-rest-preserved
 loop-rest-preserved t c =
-    let told = right_told c.args.count (flat_map (λ p. leaves p.now) c.loop-rest.waiting.items) (leaves c.in-Node.left.value) (leaves c.in-Node.right.value) (leaves c.deref-rest-in-Err.result.now) (leaves c.deref-in-Err.result.now) c.loop-rest.found _ _ _ (rw c.in-Node.is at c.loop-rest.invariant.0)
+    let told = right_means c.args.count (flat_map (λ p. leaves p.now) c.loop-rest.waiting.items) (leaves c.in-Node.left.value) (leaves c.in-Node.right.value) (leaves c.deref-rest-in-Err.result.now) (leaves c.deref-in-Err.result.now) c.loop-rest.found _ _ _ (rw c.in-Node.is at c.loop-rest.invariant.0)
     (ap leaves c.deref-rest-in-Err.ensures) (ap leaves c.deref-in-Err.ensures) c.first_bad_leaf.ensures.first c.or-found.ensures in
     rw c.in-Err.ensures.items (told, omega (arith, c.loop-rest.invariant.1, ap size c.in-Node.is, ap size c.deref-rest-in-Err.ensures))

@@ -2,7 +2,7 @@ use Rattle.std.proofs.Common.{ap, refl, subst, sym}
 use Rattle.std.specs.Option.{option_copied}
 use Rattle.difference_text.specs.DifferenceJson.{IsDifferenceText}
 use Rattle.topo_io.proofs.SinkLemmas.{appended}
-use Rattle.noshinka.proofs.Differences.{layer_told, no_layer}
+use Rattle.noshinka.proofs.Differences.{layer_says, no_layer}
 use Rattle.noshinka.proofs.differing.text_of_difference.Goals as goal
 
 pub returns-in-Ok-clause-made : goal.returns-in-Ok-clause-made
@@ -10,7 +10,7 @@ returns-in-Ok-clause-made c =
     let (t, is, took) = c.in-Ok.ensures.whole in
     let same = c.if-not-on_one_grid.ensures.0 refl in (
       same,
-      layer_told c.args.old.now c.args.new.now _ _ _ c.in-Ok.ensures.no_layer same,
+      layer_says c.args.old.now c.args.new.now _ _ _ c.in-Ok.ensures.no_layer same,
       subst (IsDifferenceText (option_copied c.args.options.now.layer) (option_copied c.args.options.now.key) c.args.options.now.json c.args.old.now c.args.new.now)
           (sym (appended _ _ _ _ (ap (λ s. s.bytes) c.new-kept.ensures) c.into_bytes.ensures took.bytes)) is,
     )

@@ -15,7 +15,7 @@ loop-geometry-preserved c =
     record {
       left = (subst (HaveFeatures arcs) next was.left).1;
       right = subst (HaveFeatures arcs) (sym c.in_ok-put_before.ensures.others) (all_behind (geometry_cmp arcs) c.in-Some.geometry (HasFeature arcs) others was.right);
-      noted = c.put_before.ensures.noted;
+      recorded = c.put_before.ensures.recorded;
       all = next_merged (geometry_cmp arcs) c.in-Some.geometry (into_iter_items c.next.new.self) others c.put_before.new.others.items c.loop-geometry.merged.items
           c.put_before.new.merged.items c.push.new.self.items (merged (geometry_cmp arcs) c.args.left.items c.args.right.items) c.in_ok-put_before.ensures.merged
           c.in_ok-put_before.ensures.others c.in_ok-push.ensures.items

@@ -6,7 +6,7 @@ use Rattle.topo.proofs.LayerLawsLemmas.MergedSteps.{all_behind, next_united, tie
 use Rattle.refine.proofs.cut.layers_of_both.Goals as goal
 
 pub loop-layer-init : goal.loop-layer-init
-loop-layer-init c = record { noted = c.new-by.ensures c.args.arcs.now.arcs; left = search rules; right = search rules; all = search rules }
+loop-layer-init c = record { recorded = c.new-by.ensures c.args.arcs.now.arcs; left = search rules; right = search rules; all = search rules }
 
 pub layer_with-requires-clause-other : goal.layer_with-requires-clause-other
 layer_with-requires-clause-other c =
@@ -21,7 +21,7 @@ loop-layer-preserved c =
     let next = c.in-Some.ensures.steps.0 in
     let others = c.loop-layer.others.items in
     record {
-      noted = c.layer_with.ensures.noted;
+      recorded = c.layer_with.ensures.recorded;
       left = (subst (LayersHaveFeatures arcs) next was.left).1;
       right = subst (LayersHaveFeatures arcs) (sym c.in_ok-other.ensures.others) (all_behind layer_cmp c.in-Some.layer (λ l. HaveFeatures arcs l.geometries) others was.right);
       all = next_united layer_cmp (layers_as_one arcs) c.in-Some.layer c.in_ok-layer_with.field-0 (into_iter_items c.next.new.self) others c.put_layers_before.new.others.items

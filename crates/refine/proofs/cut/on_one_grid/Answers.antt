@@ -7,5 +7,5 @@ pub returns : goal.returns
 returns c =
     let left = c.args.left.now.grid in
     let right = c.args.right.now.grid in
-    let told : c.eq.result ≡ same_grid left right = c.eq.ensures ∙ (λ i. same_grid (c.grid.ensures i) (c.grid-2.ensures i)) in
-    ((λ e. same_grid_true left right (sym told ∙ e)), (λ e. told ∙ same_grid_same left right e))
+    let meant : c.eq.result ≡ same_grid left right = c.eq.ensures ∙ (λ i. same_grid (c.grid.ensures i) (c.grid-2.ensures i)) in
+    ((λ e. same_grid_true left right (sym meant ∙ e)), (λ e. meant ∙ same_grid_same left right e))

@@ -1,12 +1,12 @@
 use Rattle.std.proofs.Common.{◌≡◌, ◌++◌, length}
-use Rattle.topo.specs.GeometryOrder.Noted.{IsNotedFor}
+use Rattle.topo.specs.GeometryOrder.Noted.{IsRecordedFor}
 use Rattle.topo.specs.GeometryOrder.{HaveFeatures, geometry_cmp}
 use Rattle.topo.specs.LayerLaws.CutLayers.{before, behind}
 use Rattle.refine.proofs.cut.put_before.Given as goal
 
 abbrev pub invariant-loop-others : goal.invariant-loop-others
 invariant-loop-others l = record {
-  noted : IsNotedFor l.fn.arcs.arcs l.by;
+  recorded : IsRecordedFor l.fn.arcs.arcs l.by;
   there : HaveFeatures l.fn.arcs.arcs l.others.items;
   all : l.merged.items ++ before (geometry_cmp l.fn.arcs.arcs) l.fn.geometry l.others.items
       ≡ l.fn.merged.items ++ before (geometry_cmp l.fn.arcs.arcs) l.fn.geometry l.fn.others.items;

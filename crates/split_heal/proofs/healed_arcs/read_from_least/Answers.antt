@@ -4,5 +4,5 @@ use Rattle.split_heal.proofs.healed_arcs.read_from_least.Goals as goal
 
 pub rotate_left-requires : goal.rotate_left-requires
 rotate_left-requires c =
-    subst (λ w. c.place_of_least-place.result ≤ w) c.deref.ensures.len
-    (subst (λ w. w ≤ length c.deref.result.now) (sym c.place_of_least-place.ensures) (least_within c.deref.result.now))
+    subst (λ w. c.index_of_least-place.result ≤ w) c.deref.ensures.len
+    (subst (λ w. w ≤ length c.deref.result.now) (sym c.index_of_least-place.ensures) (least_within c.deref.result.now))

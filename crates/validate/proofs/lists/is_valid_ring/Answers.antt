@@ -1,5 +1,5 @@
 use Rattle.std.proofs.Common.{◌∙◌, length, sym}
-use Rattle.validate.proofs.Listing.{ring_goes, ring_once, ring_told}
+use Rattle.validate.proofs.Listing.{ring_goes, ring_once, ring_says}
 use Rattle.validate.proofs.lists.is_valid_ring.Goals as goal
 
 pub returns-then-not-add-clause-stands : goal.returns-then-not-add-clause-stands
@@ -16,5 +16,5 @@ returns-then-not-goes_round-clause-stands c = (
 
 pub returns-clause-stands : goal.returns-clause-stands
 returns-clause-stands c =
-    ring_told c.args.table.now (length c.args.used.now) c.requires c.args.refs.now c.starts_least.result (sym c.add.ensures.once ∙ c.if-not-add.false)
+    ring_says c.args.table.now (length c.args.used.now) c.requires c.args.refs.now c.starts_least.result (sym c.add.ensures.once ∙ c.if-not-add.false)
     (c.goes_round.ensures.0 c.if-not-goes_round.false) c.starts_least.ensures

@@ -1,5 +1,5 @@
 use Rattle.std.proofs.Common.{◌∙◌, false, length, sym, true}
-use Rattle.validate.proofs.Listing.{line_once, line_told, run_line_ends}
+use Rattle.validate.proofs.Listing.{line_once, line_says, run_line_ends}
 use Rattle.validate.proofs.lists.line_run.Goals as goal
 
 pub returns-then-not-add-clause-stands : goal.returns-then-not-add-clause-stands
@@ -10,7 +10,7 @@ returns-then-not-add-clause-stands c = (
 
 pub returns-then-none_free-clause-stands : goal.returns-then-none_free-clause-stands
 returns-then-none_free-clause-stands c =
-    line_told c.args.table.now (length c.args.used.now) c.requires c.args.refs.now c.in-Some.ends.0 c.in-Some.ends.1 true
+    line_says c.args.table.now (length c.args.used.now) c.requires c.args.refs.now c.in-Some.ends.0 c.in-Some.ends.1 true
     (sym c.add.ensures.once ∙ c.if-not-add.false) c.in-Some.ensures.some c.in-Some.ensures.runs (sym c.if-none_free.true ∙ c.none_free.ensures)
 
 pub returns-then-none_free-clause-ends : goal.returns-then-none_free-clause-ends
@@ -19,5 +19,5 @@ returns-then-none_free-clause-ends c =
 
 pub returns-clause-stands : goal.returns-clause-stands
 returns-clause-stands c =
-    line_told c.args.table.now (length c.args.used.now) c.requires c.args.refs.now c.in-Some.ends.0 c.in-Some.ends.1 false
+    line_says c.args.table.now (length c.args.used.now) c.requires c.args.refs.now c.in-Some.ends.0 c.in-Some.ends.1 false
     (sym c.add.ensures.once ∙ c.if-not-add.false) c.in-Some.ensures.some c.in-Some.ensures.runs (sym c.if-none_free.false ∙ c.none_free.ensures)

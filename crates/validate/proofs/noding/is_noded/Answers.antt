@@ -26,9 +26,9 @@ returns c = λ asc.
     let t = c.args.table.now in
     let sorted = c.sort_unstable.new.self.items in
     let few : KeepsElsewhere c.in_ok-few.few.items c.in_ok-inside.inside.items t.arcs = subst (λ l. KeepsElsewhere c.in_ok-few.few.items l t.arcs) c.deref.ensures.value c.in_ok-few.ensures in
-    let told : c.each_ends.result ≡ each_ends Apart sorted t.loops t.arcs = c.each_ends.ensures ∙ ap (λ w. each_ends Apart w t.loops t.arcs) c.deref-3.ensures.value in (
+    let meant : c.each_ends.result ≡ each_ends Apart sorted t.loops t.arcs = c.each_ends.ensures ∙ ap (λ w. each_ends Apart w t.loops t.arcs) c.deref-3.ensures.value in (
       (λ h. apart_intro t c.in_ok-inside.inside.items c.in_ok-few.few.items sorted c.in_ok-inside.ensures few c.sort_unstable.ensures.permutation c.sort_unstable.ensures.sorted asc
           (sym c.arcs_are_valid.ensures ∙ c.if-not-arcs_are_valid.false)
-          (sym (c.has_equal_neighbours.ensures ∙ ap (equal_neighbours position_eq) c.deref-2.ensures.value) ∙ c.if-has_equal_neighbours.false) (sym told ∙ h)),
-      (λ st. told ∙ apart_ends t c.in_ok-inside.inside.items c.in_ok-few.few.items sorted c.in_ok-inside.ensures few c.sort_unstable.ensures.permutation c.sort_unstable.ensures.sorted st),
+          (sym (c.has_equal_neighbours.ensures ∙ ap (equal_neighbours position_eq) c.deref-2.ensures.value) ∙ c.if-has_equal_neighbours.false) (sym meant ∙ h)),
+      (λ st. meant ∙ apart_ends t c.in_ok-inside.inside.items c.in_ok-few.few.items sorted c.in_ok-inside.ensures few c.sort_unstable.ensures.permutation c.sort_unstable.ensures.sorted st),
     )

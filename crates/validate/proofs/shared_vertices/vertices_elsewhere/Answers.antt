@@ -7,14 +7,14 @@ use Rattle.validate.specs.SharedVertices.{KeepsElsewhere}
 use Rattle.validate.proofs.ComingAgain.{keeps_elsewhere}
 use Rattle.validate.proofs.shared_vertices.vertices_elsewhere.Goals as goal
 
-told : {E : Type 0} (r : Result (Vec Pos Global) E) (all inside : List Pos) (arcs : List (List Pos)) → ((l : List Pos) → l ≡ all → KeepsElsewhere l inside arcs) →
+meant : {E : Type 0} (r : Result (Vec Pos Global) E) (all inside : List Pos) (arcs : List (List Pos)) → ((l : List Pos) → l ≡ all → KeepsElsewhere l inside arcs) →
     IfOk r (λ v. v.items ≡ all) → IfOk r (λ v. KeepsElsewhere v.items inside arcs)
-told (Ok v) all inside arcs f e = f v.items e
-told (Err x) all inside arcs f e = tt
+meant (Ok v) all inside arcs f e = f v.items e
+meant (Err x) all inside arcs f e = tt
 
 pub returns : goal.returns
 returns c =
-    told c.keep_marked.result _ c.args.inside.now c.args.table.now.arcs
+    meant c.keep_marked.result _ c.args.inside.now c.args.table.now.arcs
     (λ l. keeps_elsewhere (may_hold c.in_ok-bits.bits) c.in_ok-watched.watched.items c.append.new.self.items c.args.inside.now l c.args.table.now.arcs c.in_ok-watched.ensures
     (c.in_ok-append.ensures.items ∙ ap (λ w. c.in_ok-watched.watched.items ++ w) c.in_ok-ends.ensures)
     (subst (Holds (may_hold c.in_ok-bits.bits)) c.deref.ensures.value c.in_ok-bits.ensures))

@@ -5,7 +5,7 @@ use Rattle.arcs.specs.Pieces.{chain_of}
 use Rattle.arcs.specs.Stored.{positions_of, loops_of, rises}
 use Rattle.arcs.specs.Table.{AreLoopsOf}
 use Rattle.arcs.proofs.Extents.{alone}
-use Rattle.arcs.proofs.Marks.{merged_once, merged_loops, alike_told}
+use Rattle.arcs.proofs.Marks.{merged_once, merged_loops, alike_means}
 use Rattle.arcs.proofs.Merged.{pieces_rise}
 use Rattle.arcs.proofs.ArcsOfPieces.{table_is}
 use Rattle.arcs.proofs.table.ArcTable.from_pieces.Goals as goal
@@ -26,7 +26,7 @@ returns-clause-loops c =
     (merged_loops c.args.pieces.items c.sort_unstable.new.self.items c.sort_unstable.ensures.permutation)
 
 pub returns-clause-free : goal.returns-clause-free
-returns-clause-free c = alike_told c.args.pieces.items _ (returns-clause-arcs c).there (returns-clause-loops c)
+returns-clause-free c = alike_means c.args.pieces.items _ (returns-clause-arcs c).there (returns-clause-loops c)
 
 pub returns-clause-of_map : goal.returns-clause-of_map
 returns-clause-of_map c = λ g s are. table_is g s c.args.pieces.items _ (returns-clause-arcs c) (returns-clause-loops c) are

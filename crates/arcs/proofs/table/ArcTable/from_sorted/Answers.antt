@@ -1,12 +1,12 @@
 use Rattle.std.proofs.Common.{map, ap, sym, ◌∙◌}
 use Rattle.arcs.specs.Stored.{loops_of, positions_of, rises}
-use Rattle.arcs.proofs.ArcsInOrder.{sorted_told, with_marks_positions, with_marks_loops}
+use Rattle.arcs.proofs.ArcsInOrder.{sorted_means, with_marks_positions, with_marks_loops}
 use Rattle.arcs.proofs.Extents.{alone}
 use Rattle.arcs.proofs.table.ArcTable.from_sorted.Goals as goal
 
 pub returns-then-not-is_rising-clause-sorted : goal.returns-then-not-is_rising-clause-sorted
 returns-then-not-is_rising-clause-sorted c =
-    sorted_told c.args.arcs.items _ (sym c.if-not-is_rising.true ∙ c.is_rising.ensures ∙ ap rises c.deref.ensures.value)
+    sorted_means c.args.arcs.items _ (sym c.if-not-is_rising.true ∙ c.is_rising.ensures ∙ ap rises c.deref.ensures.value)
 
 pub invariant_of-result : goal.invariant_of-result
 invariant_of-result c = alone _ (
@@ -24,4 +24,4 @@ returns-clause-table c = λ i. record {
 
 pub returns-clause-sorted : goal.returns-clause-sorted
 returns-clause-sorted c =
-    sorted_told c.args.arcs.items _ (sym c.if-not-is_rising.false ∙ c.is_rising.ensures ∙ ap rises c.deref.ensures.value)
+    sorted_means c.args.arcs.items _ (sym c.if-not-is_rising.false ∙ c.is_rising.ensures ∙ ap rises c.deref.ensures.value)

@@ -1,11 +1,11 @@
 use Rattle.std.proofs.Common.{◌∙◌}
 use Rattle.arcs.specs.ArcTexts.{arc_text}
-use Rattle.arcs.proofs.TextsLeft.{text_more, text_part, texts_begun, texts_done}
+use Rattle.arcs.proofs.TextsLeft.{text_more, text_part, texts_started, texts_done}
 use Rattle.arcs.proofs.writing.ArcsTextWritten.write.Goals as goal
 
 pub loop-arc-init : goal.loop-arc-init
 loop-arc-init g c =
-    texts_begun arc_text c.args.self.now.0.now.arcs c.into_iter-arc-iterator.result (g.W.Sink.seen c.args.sink.now)
+    texts_started arc_text c.args.self.now.0.now.arcs c.into_iter-arc-iterator.result (g.W.Sink.seen c.args.sink.now)
     (c.into_iter-arc-iterator.ensures.into_iter_gives ∙ c.iter-arc-items.ensures.arcs)
 
 pub loop-arc-preserved : goal.loop-arc-preserved

@@ -6,7 +6,7 @@ use Rattle.chains.proofs.recent.RecentVertices.insert.Goals as goal
 
 pub returns-then-eq : goal.returns-then-eq
 returns-then-eq c =
-    let v = c.in-Some-get.noted.now in
+    let v = c.in-Some-get.recorded.now in
     let k = c.in-Some.place.now in
     let at = c.in-Some-get.ensures.lookup in
     same_at c.args.position v c.args.self.now.positions.items k

@@ -2,7 +2,7 @@ use Rattle.std.proofs.Common.{◌++◌, ◌∙◌, ap}
 use Rattle.theory.specs.Lists.{gathered}
 use Rattle.chains.specs.OfArcs.{arc_ends, tables_as_map}
 use Rattle.chains.specs.VertexFilter.{arc_shared, may_hold, HoldShared}
-use Rattle.chains.specs.Noted.{visits_noted}
+use Rattle.chains.specs.Noted.{visits_recorded}
 use Rattle.arcs.proofs.Extents.{joined_keeps, joined_keeps_other}
 use Rattle.chains.proofs.Same.{same_before, same_equal, same_refl, same_trans}
 use Rattle.chains.proofs.SharedVertices.{all_visits, left_whole, met_kept, right_whole, shared_held}
@@ -37,7 +37,7 @@ returns-clause-arcs c = λ m n sm sn ms nt.
     (c.in_ok-left_marks.ensures.ends ∙ ap (λ w. w ++ gathered (arc_ends s.loops) s.arcs) c.in_ok-seen.ensures.ends))
     (same_refl all) in
     c.in_ok-index.ensures (tables_as_map s t) all
-    (met_kept m n sm sn s t ms nt of_s of_t hold_s hold_t ends (visits_noted c.see_arcs-2.new.self) are
+    (met_kept m n sm sn s t ms nt of_s of_t hold_s hold_t ends (visits_recorded c.see_arcs-2.new.self) are
     (same_trans c.in_ok-right_marks.ensures.visits (same_before (gathered (arc_shared (may_hold of_s) t.loops) t.arcs)
     (same_trans c.in_ok-left_marks.ensures.visits (same_equal (ap (λ w. w ++ gathered (arc_shared (may_hold of_t) s.loops) s.arcs) c.in_ok-seen.ensures.visits))))))
     are

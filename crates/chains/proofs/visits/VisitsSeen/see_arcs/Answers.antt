@@ -2,8 +2,8 @@ use Rattle.std.proofs.Common.{◌++◌, ◌∙◌, ◌<◌, ◌+◌, false, ap, 
 use Rattle.theory.specs.Lists.{gathered}
 use Rattle.chains.specs.OfArcs.{arc_ends, ends_if}
 use Rattle.chains.specs.VertexFilter.{arc_meets, arc_shared, may_hold, shared_if}
-use Rattle.chains.specs.Noted.{visits_noted}
-use Rattle.chains.proofs.Apart.{told_apart}
+use Rattle.chains.specs.Noted.{visits_recorded}
+use Rattle.chains.proofs.Apart.{if_apart}
 use Rattle.chains.proofs.Same.{same_step}
 use Rattle.chains.proofs.Sharing.{meets_answered, shared_given}
 use Rattle.chains.proofs.TablesAsMap.{left_step, map_step, ends_given}
@@ -22,7 +22,7 @@ loop-number-preserved c =
           ∙ c.loop-number.invariant.ends;
       visits =
           same_step (gathered (arc_shared may t.loops) (drop (i + 1) t.arcs)) c.in_ok-see_numbered.ensures.visits c.loop-number.invariant.visits
-          (left_step (arc_shared may t.loops) t.arcs i (visits_noted c.loop-number.self) (shared_if may t.loops (slice_get t.arcs i)) h (shared_given may t.loops (slice_get t.arcs i)));
+          (left_step (arc_shared may t.loops) t.arcs i (visits_recorded c.loop-number.self) (shared_if may t.loops (slice_get t.arcs i)) h (shared_given may t.loops (slice_get t.arcs i)));
       marks =
           map_step false (arc_meets may t.loops) t.arcs i c.loop-number.marks.items c.push.new.self.items c.in_ok-see_numbered.field-0
           (map (arc_meets may t.loops) t.arcs) h
@@ -32,4 +32,4 @@ loop-number-preserved c =
 
 pub see_numbered-requires : goal.see_numbered-requires
 see_numbered-requires c = λ arc h e.
-    told_apart c.args.other.now c.args.table.now.arcs c.args.near.now c.loop-number.number arc c.is_marked.result c.requires c.is_marked.ensures h e
+    if_apart c.args.other.now c.args.table.now.arcs c.args.near.now c.loop-number.number arc c.is_marked.result c.requires c.is_marked.ensures h e

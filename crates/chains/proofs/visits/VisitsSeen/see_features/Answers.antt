@@ -9,7 +9,7 @@ use Rattle.shapes.specs.SetLaws.{items-from_list}
 use Rattle.chains.specs.Index.{feature_ends, feature_visits}
 use Rattle.chains.specs.Seen.{form_of}
 use Rattle.chains.specs.Visits.{around_of, inner_of}
-use Rattle.chains.specs.Noted.{visits_noted}
+use Rattle.chains.specs.Noted.{visits_recorded}
 use Rattle.chains.proofs.Same.{same_equal, same_step, same_twice}
 use Rattle.chains.proofs.visits.VisitsSeen.see_features.Goals as goal
 
@@ -18,7 +18,7 @@ loop-feature-init c =
     let first : c.into_iter-feature-iterator.result ≡ set.items (set_of c.args.features.now) = grind (arith, common_steps, items-from_list feature_cmp_total c.args.features.now.keys c.iter-feature-items.ensures.ordered) in
     record {
       ends = ap (λ fs. c.args.self.now.ends.items ++ gathered feature_ends fs) first;
-      visits = same_equal (ap (λ fs. visits_noted c.args.self.now ++ gathered feature_visits fs) first);
+      visits = same_equal (ap (λ fs. visits_recorded c.args.self.now ++ gathered feature_visits fs) first);
     }
 
 pub loop-feature-preserved : goal.loop-feature-preserved
@@ -27,6 +27,6 @@ loop-feature-preserved c =
     record {
       ends = grind (arith, common_steps);
       visits =
-          same_step _ (same_twice (visits_noted c.loop-feature.self) (gathered inner_of (lines_in f)) (gathered around_of (rings_in f)) c.in_ok-see_lines.ensures.visits c.in_ok-see_rings.ensures.visits)
+          same_step _ (same_twice (visits_recorded c.loop-feature.self) (gathered inner_of (lines_in f)) (gathered around_of (rings_in f)) c.in_ok-see_lines.ensures.visits c.in_ok-see_rings.ensures.visits)
           c.loop-feature.invariant.visits (grind (arith, common_steps));
     }

@@ -1,7 +1,7 @@
 use Rattle.std.proofs.Common.{◌++◌, ◌∙◌, ◌-◌, ap, sym, append_assoc, drop, length, take, arith}
-use Rattle.chains.specs.Noted.{visits_noted}
+use Rattle.chains.specs.Noted.{visits_recorded}
 use Rattle.chains.specs.Visits.{inner_of}
-use Rattle.chains.proofs.NotedPlaces.{inner_step}
+use Rattle.chains.proofs.RecordedIndexes.{inner_step}
 use Rattle.chains.proofs.Same.{same_step}
 use Rattle.chains.proofs.visits.VisitsSeen.see_inside.Goals as goal
 
@@ -12,7 +12,7 @@ loop-window-preserved c =
     record {
       visits =
           same_step rest c.in_ok-insert.ensures.visits c.loop-window.invariant.visits
-          (ap (λ l. visits_noted c.loop-window.self ++ l) (inner_step left c.in-Some.window.now (omega (arith, c.in-Some.ensures.cases.2)) c.in-Some.ensures.cases.0)
-          ∙ sym (append_assoc (visits_noted c.loop-window.self) (inner_of c.in-Some.window.now) rest));
+          (ap (λ l. visits_recorded c.loop-window.self ++ l) (inner_step left c.in-Some.window.now (omega (arith, c.in-Some.ensures.cases.2)) c.in-Some.ensures.cases.0)
+          ∙ sym (append_assoc (visits_recorded c.loop-window.self) (inner_of c.in-Some.window.now) rest));
       ends = c.in_ok-insert.ensures.ends ∙ c.loop-window.invariant.ends;
     }

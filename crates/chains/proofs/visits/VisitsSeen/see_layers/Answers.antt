@@ -2,7 +2,7 @@ use Rattle.std.proofs.Common.{arith, ◌++◌, ◌∙◌, ap, map as map_list}
 use Rattle.std.proofs.lemmas.Grind.{common_steps}
 use Rattle.shapes.specs.Maps.{layer_entry}
 use Rattle.chains.specs.Index.{form_ends, form_visits}
-use Rattle.chains.specs.Noted.{visits_noted}
+use Rattle.chains.specs.Noted.{visits_recorded}
 use Rattle.chains.proofs.Layers.{of_layers}
 use Rattle.chains.proofs.Same.{same_equal, same_step}
 use Rattle.chains.proofs.visits.VisitsSeen.see_layers.Goals as goal
@@ -13,7 +13,7 @@ loop-layer-init c =
     let first = ap (map_list layer_entry) c.into_iter-layer-iterator.ensures.into_iter_gives ∙ c.layers-layer-items.ensures in
     record {
       ends = ap (λ w. c.args.self.now.ends.items ++ w) (of_layers form_ends c.args.map.now ls first);
-      visits = same_equal (ap (λ w. visits_noted c.args.self.now ++ w) (of_layers form_visits c.args.map.now ls first));
+      visits = same_equal (ap (λ w. visits_recorded c.args.self.now ++ w) (of_layers form_visits c.args.map.now ls first));
     }
 
 pub loop-layer-preserved : goal.loop-layer-preserved

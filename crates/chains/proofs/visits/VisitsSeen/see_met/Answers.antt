@@ -1,7 +1,7 @@
 use Rattle.std.proofs.Common.{◌∙◌, ap, sym}
 use Rattle.std.specs.List.{list_any}
 use Rattle.chains.specs.VertexFilter.{may_hold}
-use Rattle.chains.specs.Noted.{visits_noted}
+use Rattle.chains.specs.Noted.{visits_recorded}
 use Rattle.chains.proofs.Apart.{apart_inside, no_visits}
 use Rattle.chains.proofs.visits.VisitsSeen.see_met.Goals as goal
 use Rattle.chains.proofs.visits.VisitsSeen.see_met.Goals.{then-not-near-via-then-not-near, then-not-near-via-else-not-near+then-not-may_meet}
@@ -15,4 +15,4 @@ returns-then-not-near-clause-met c =
     ]
 
 pub returns-then-not-near-clause-visits : goal.returns-then-not-near-clause-visits
-returns-then-not-near-clause-visits c = no_visits (may_hold c.args.other.now) c.args.free c.args.arc.now (visits_noted c.args.self.now) (sym (returns-then-not-near-clause-met c))
+returns-then-not-near-clause-visits c = no_visits (may_hold c.args.other.now) c.args.free c.args.arc.now (visits_recorded c.args.self.now) (sym (returns-then-not-near-clause-met c))

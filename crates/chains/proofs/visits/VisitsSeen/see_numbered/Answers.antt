@@ -3,7 +3,7 @@ use Rattle.chains.specs.OfArcs.{ends_if}
 use Rattle.chains.specs.VertexFilter.{may_hold, meets, meets_if, met_visits, shared_if}
 use Rattle.arcs.specs.Table.{is_loop_if}
 use Rattle.chains.specs.Visits.{HaveSame, ends_of}
-use Rattle.chains.specs.Noted.{visits_noted}
+use Rattle.chains.specs.Noted.{visits_recorded}
 use Rattle.chains.proofs.visits.VisitsSeen.see_numbered.Goals as goal
 
 pub returns-in-Some-clause-ends : goal.returns-in-Some-clause-ends
@@ -19,7 +19,7 @@ returns-in-Some-clause-visits c =
     let t = c.args.table.now in
     let arc = c.in-Some.arc.now in
     let may = may_hold c.args.other.now in
-    subst (λ w. OnOk c.see_arc.result (HaveSame (visits_noted c.see_arc.new.self) (visits_noted c.args.self.now ++ w)))
+    subst (λ w. OnOk c.see_arc.result (HaveSame (visits_recorded c.see_arc.new.self) (visits_recorded c.args.self.now ++ w)))
     (ap (λ b. met_visits may b arc) (c.is_free.ensures ∙ ap (is_loop_if t.loops) (sym c.in-Some.ensures)) ∙ ap (shared_if may t.loops) c.in-Some.ensures)
     c.see_arc.ensures.visits
 

@@ -4,7 +4,7 @@ use Rattle.theory.specs.Lists.{gathered}
 use Rattle.theory.specs.Topology.{rings_in}
 use Rattle.chains.specs.Seen.{form_of, ring_of}
 use Rattle.chains.specs.Visits.{around_of}
-use Rattle.chains.specs.Noted.{visits_noted}
+use Rattle.chains.specs.Noted.{visits_recorded}
 use Rattle.chains.proofs.Layers.{rings_seen}
 use Rattle.chains.proofs.Same.{same_equal, same_step}
 use Rattle.chains.proofs.visits.VisitsSeen.see_rings.Goals as goal
@@ -14,7 +14,7 @@ loop-ring-init c =
     let first : map ring_of c.into_iter-ring-iterator.result ≡ rings_in (form_of c.args.shape.now) = ap (map ring_of) (c.into_iter-ring-iterator.ensures.into_iter_gives ∙ c.rings-ring-items.ensures) ∙ sym (rings_seen c.args.shape.now) in
     record {
       ends = grind (arith, common_steps);
-      visits = same_equal (ap (λ ls. visits_noted c.args.self.now ++ gathered around_of ls) first);
+      visits = same_equal (ap (λ ls. visits_recorded c.args.self.now ++ gathered around_of ls) first);
     }
 
 pub loop-ring-preserved : goal.loop-ring-preserved

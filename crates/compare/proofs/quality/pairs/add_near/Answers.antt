@@ -11,11 +11,11 @@ loop-next-preserved c =
     let all = subst (λ l. Ascend (c.args.one ∷ l)) c.in-Some.ensures.cases.0 c.loop-next.invariant.ascend in
     record {
       kept =
-          ap (λ l. l ++ map (places_at c.args.one) (near_to c.args.steps c.args.one c.left_behind-left.result.now)) c.in_ok-add_if_near.ensures
-          ∙ met_places c.args.steps c.args.one c.in-Some.next.now c.loop-next.left.now c.in-Some.rest.now c.left_behind-left.result.now c.in-Some.ensures.cases.0
-          (c.left_behind-left.ensures.near all.1) c.loop-next.places.items
+          ap (λ l. l ++ map (places_at c.args.one) (near_to c.args.steps c.args.one c.rest_behind-left.result.now)) c.in_ok-add_if_near.ensures
+          ∙ met_places c.args.steps c.args.one c.in-Some.next.now c.loop-next.left.now c.in-Some.rest.now c.rest_behind-left.result.now c.in-Some.ensures.cases.0
+          (c.rest_behind-left.ensures.near all.1) c.loop-next.places.items
           ∙ c.loop-next.invariant.kept;
-      ascend = c.left_behind-left.ensures.ascend (all.0.1, all.1.1);
+      ascend = c.rest_behind-left.ensures.ascend (all.0.1, all.1.1);
       few =
           few_more (are_near c.args.steps c.args.one c.in-Some.next.now) c.loop-next.places.items c.add_if_near.new.places.items (places_at c.args.one c.in-Some.next.now) c.args.most
           c.in_ok-add_if_near.ensures (omega (arith, c.len.ensures, c.if-len-most.false));

@@ -26,9 +26,9 @@ pub loop-next-preserved : goal.loop-next-preserved
 loop-next-preserved c =
     let all = subst (λ l. Ascend (c.args.one ∷ l)) c.in-Some.ensures.cases.0 c.loop-next.invariant.ascend in
     let more =
-    met_length c.args.steps c.args.one c.in-Some.next.now c.loop-next.left.now c.in-Some.rest.now c.left_behind-left.result.now c.in-Some.ensures.cases.0
-    (c.left_behind-left.ensures.near all.1) in
-    record { counted = omega (arith, more, c.one_if_near-count.ensures, c.loop-next.invariant.counted); ascend = c.left_behind-left.ensures.ascend (all.0.1, all.1.1) }
+    met_length c.args.steps c.args.one c.in-Some.next.now c.loop-next.left.now c.in-Some.rest.now c.rest_behind-left.result.now c.in-Some.ensures.cases.0
+    (c.rest_behind-left.ensures.near all.1) in
+    record { counted = omega (arith, more, c.one_if_near-count.ensures, c.loop-next.invariant.counted); ascend = c.rest_behind-left.ensures.ascend (all.0.1, all.1.1) }
 
 pub returns : goal.returns
 returns c =

@@ -4,7 +4,7 @@ use Rattle.lines.proofs.Dropping.{drop_item}
 use Rattle.compare.specs.Quality.Found.{places_at, places_of}
 use Rattle.compare.specs.Quality.Near.{Ascend, near_pairs, near_to}
 use Rattle.compare.proofs.QualityLemmas.Nearness.{left_ascends}
-use Rattle.compare.proofs.QualityLemmas.Walking.{noted_more, take_few, take_most}
+use Rattle.compare.proofs.QualityLemmas.Walking.{recorded_more, take_few, take_most}
 use Rattle.compare.proofs.quality.pairs.first_near.Goals as goal
 
 pub add_near-requires-clause-ascend : goal.add_near-requires-clause-ascend
@@ -20,7 +20,7 @@ loop-number-preserved c =
     ∙ ap (λ l. take c.args.most (c.loop-number.first.items ++ map (places_at c.index-vertices-number.result) (near_to c.args.steps c.index-vertices-number.result l))) c.split_at.ensures.back in
     record {
       kept =
-          noted_more c.args.most c.args.steps c.index-vertices-number.result (drop c.loop-number.number c.args.vertices.now) (drop (c.loop-number.number + 1) c.args.vertices.now)
+          recorded_more c.args.most c.args.steps c.index-vertices-number.result (drop c.loop-number.number c.args.vertices.now) (drop (c.loop-number.number + 1) c.args.vertices.now)
           c.loop-number.first.items c.add_near.new.places.items is made ∙ c.loop-number.invariant.kept;
       few =
           subst (λ l. length l ≤ c.args.most) (sym made)

@@ -1,6 +1,6 @@
 use Rattle.std.proofs.Common.{sym, subst, ap, ◌∙◌, ◌∷◌}
 use Rattle.compare.specs.Quality.Near.{Ascend, near_to}
-use Rattle.compare.proofs.QualityLemmas.Nearness.{left_behind, near_left}
+use Rattle.compare.proofs.QualityLemmas.Nearness.{rest_behind, near_left}
 use Rattle.compare.proofs.quality.search.skip_beyond.Goals as goal
 
 pub returns-clause-near : goal.returns-clause-near
@@ -9,4 +9,4 @@ returns-clause-near c = λ a.
     ∙ near_left c.args.steps c.args.one c.args.behind.now c.count_beyond.result (c.count_beyond.ensures.beyond a)
 
 pub returns-clause-ascend : goal.returns-clause-ascend
-returns-clause-ascend c = λ a. subst (λ l. Ascend (c.args.one ∷ l)) (sym c.split_at.ensures.back) (left_behind c.args.one c.args.behind.now c.count_beyond.result a)
+returns-clause-ascend c = λ a. subst (λ l. Ascend (c.args.one ∷ l)) (sym c.split_at.ensures.back) (rest_behind c.args.one c.args.behind.now c.count_beyond.result a)

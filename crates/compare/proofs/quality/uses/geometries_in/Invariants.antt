@@ -5,4 +5,4 @@ use Rattle.compare.proofs.quality.uses.geometries_in.Given as goal
 
 abbrev pub invariant-loop-layer : goal.invariant-loop-layer
 invariant-loop-layer l =
-    borrowed l.noted.items ++ gathered (λ k. k.geometries) (drop l.layer-index l.fn.layers) ≡ gathered (λ k. k.geometries) l.fn.layers
+    borrowed l.recorded.items ++ gathered (λ k. k.geometries) (drop l.layer-index l.fn.layers) ≡ gathered (λ k. k.geometries) l.fn.layers

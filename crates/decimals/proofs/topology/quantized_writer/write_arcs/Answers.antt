@@ -1,11 +1,11 @@
 use Rattle.std.proofs.Common.{◌∙◌}
 use Rattle.decimals.specs.Topology.TopologyText.{quantized_arc}
-use Rattle.arcs.proofs.TextsLeft.{text_more, texts_begun, texts_done}
+use Rattle.arcs.proofs.TextsLeft.{text_more, texts_started, texts_done}
 use Rattle.decimals.proofs.topology.quantized_writer.write_arcs.Goals as goal
 
 pub loop-arc-init : goal.loop-arc-init
 loop-arc-init g c =
-    texts_begun (quantized_arc c.args.quantizer.now) c.args.arcs.now.arcs c.into_iter-arc-iterator.result (g.W.Sink.seen c.args.out.now)
+    texts_started (quantized_arc c.args.quantizer.now) c.args.arcs.now.arcs c.into_iter-arc-iterator.result (g.W.Sink.seen c.args.out.now)
     (c.into_iter-arc-iterator.ensures.into_iter_gives ∙ c.iter-arc-items.ensures.arcs)
 
 pub loop-arc-preserved : goal.loop-arc-preserved

@@ -2,7 +2,7 @@ use Rattle.std.proofs.Common.{◌≡◌, ◌+◌, ◌∙◌, sym, ap, Some, arit
 use Rattle.std.specs.BTreeMap.{get}
 use Rattle.lines.specs.Turned.{position_cmp}
 use Rattle.fixing.specs.Loops.{place_on}
-use Rattle.fixing.proofs.LoopSteps.{cut_told, notes_more, notes_told, placed, step_on}
+use Rattle.fixing.proofs.LoopSteps.{cut_means, records_more, records_means, placed, step_on}
 use Rattle.fixing.proofs.loops.LoopWalk.step.Goals as goal
 
 pub cut_loop-requires : goal.cut_loop-requires
@@ -13,17 +13,17 @@ cut_loop-requires c =
 
 pub returns-in-Some-clause-noted : goal.returns-in-Some-clause-noted
 returns-in-Some-clause-noted c =
-    notes_told c.cut_loop.result (get position_cmp c.args.self.now.places) (get position_cmp c.cut_loop.new.self.places) c.args.self.now.path.items
+    records_means c.cut_loop.result (get position_cmp c.args.self.now.places) (get position_cmp c.cut_loop.new.self.places) c.args.self.now.path.items
     c.cut_loop.new.self.path.items (c.in-Some.place + 1) (λ q. ap (λ m. get position_cmp m q) c.cut_loop.ensures.places) c.cut_loop.ensures.path c.requires
 
 pub returns-in-Some-clause-left : goal.returns-in-Some-clause-left
 returns-in-Some-clause-left c =
-    cut_told c.cut_loop.result c.args.self.now.loops.items c.cut_loop.new.self.loops.items c.args.self.now.path.items c.cut_loop.new.self.path.items
+    cut_means c.cut_loop.result c.args.self.now.loops.items c.cut_loop.new.self.loops.items c.args.self.now.path.items c.cut_loop.new.self.path.items
     c.args.position c.in-Some.place c.in-Some.ensures c.cut_loop.ensures.loops c.cut_loop.ensures.path
 
 pub returns-clause-noted : goal.returns-clause-noted
 returns-clause-noted c =
-    notes_more (get position_cmp c.args.self.now.places) (get position_cmp c.insert.new.self) c.args.self.now.path.items c.push.new.self.items c.args.position c.len.result
+    records_more (get position_cmp c.args.self.now.places) (get position_cmp c.insert.new.self) c.args.self.now.path.items c.push.new.self.items c.args.position c.len.result
     (sym c.place.ensures ∙ c.in_default.is) c.in_ok-insert.ensures.updates.0 (c.len.ensures ∙ c.args.self.now.path.ok.0) c.in_ok-push.ensures.items c.requires
 
 pub returns-clause-left : goal.returns-clause-left

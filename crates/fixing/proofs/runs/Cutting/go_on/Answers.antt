@@ -1,7 +1,7 @@
 use Rattle.std.proofs.Common.{ap, ◌∙◌}
 use Rattle.std.specs.BTreeSet.{contains}
 use Rattle.lines.specs.Pairs.{pair_cmp}
-use Rattle.fixing.proofs.RunSteps.{step_new, used_told}
+use Rattle.fixing.proofs.RunSteps.{step_new, used_means}
 use Rattle.fixing.proofs.runs.Cutting.go_on.Goals as goal
 
 pub returns-then-is_new : goal.returns-then-is_new
@@ -12,7 +12,7 @@ returns-then-is_new c = λ l.
 
 pub returns : goal.returns
 returns c =
-    used_told c.begin_run.result (contains pair_cmp c.args.self.now.used) (contains pair_cmp c.begin_run.new.self.used) c.of.result c.args.self.now.here
+    used_means c.begin_run.result (contains pair_cmp c.args.self.now.used) (contains pair_cmp c.begin_run.new.self.used) c.of.result c.args.self.now.here
     c.begin_run.new.self.here c.args.next c.of.ensures
     (λ q. ap (λ u. contains pair_cmp u q) c.begin_run.ensures.used ∙ c.in_ok-is_new.ensures.updates.0 q)
     c.args.self.now.ended.items c.begin_run.new.self.ended.items c.args.self.now.run.items c.begin_run.new.self.run.items

@@ -2,7 +2,7 @@ use Rattle.std.proofs.Common.{◌≡◌, List, [], ◌∷◌, length, refl, arit
 use Rattle.shapes.specs.Maps.{set_of, with_features}
 use Rattle.reading.specs.Meant.{AreFeatures}
 use Rattle.geojson_io.specs.Features.{features_of_text}
-use Rattle.outputs.proofs.BuiltTextLemmas.Layers.{SoFarMap, map_begun, map_more, map_done}
+use Rattle.outputs.proofs.BuiltTextLemmas.Layers.{SoFarMap, map_started, map_more, map_done}
 use Rattle.outputs.proofs.BuiltTextLemmas.Refusals.{begun, one_more, refusal_at}
 use Rattle.outputs.proofs.built_text.building.read_layers.Goals as goal
 
@@ -16,7 +16,7 @@ loop-source-init g c =
     let texts = map (λ s. (g.N.AsStr.text s.0, g.T.AsSlice.items s.1)) c.args.texts.now in
     record {
       judged = begun t (map (λ s. g.T.AsSlice.items s.1) c.args.texts.now);
-      collected = subst (SoFarMap t texts texts) (sym c.new-map.ensures) (map_begun t texts);
+      collected = subst (SoFarMap t texts texts) (sym c.new-map.ensures) (map_started t texts);
     }
 
 pub loop-source-preserved : goal.loop-source-preserved

@@ -2,17 +2,17 @@ use Rattle.std.proofs.Common.{[], ap, map, subst, ◌++◌, ◌≡◌, ◌∙◌
 use Rattle.query.specs.ArcUsers.{AreListsBy}
 use Rattle.query.specs.EachOnce.{borrowed}
 use Rattle.query.proofs.Neighboring.{lists_neighbors}
-use Rattle.query.proofs.LayerFeatures.{layer_found, layer_missing, layer_stands, not_named, named_features}
+use Rattle.query.proofs.LayerFeatures.{layer_found, layer_missing, layer_holds, not_named, named_features}
 use Rattle.query.proofs.questions.neighbors.neighbors.Goals as goal
 
 pub returns-in_default-clause-layer : goal.returns-in_default-clause-layer
 returns-in_default-clause-layer c = λ m of. layer_missing _ (not_named m c.args.topology.now of c.args.layer.now c.in_default.ensures.none)
 
 pub returns-in_err-add_geometries-clause-layer : goal.returns-in_err-add_geometries-clause-layer
-returns-in_err-add_geometries-clause-layer c = λ m of. layer_stands c.from_residual.result _ c.from_residual.ensures.1 (named_features m c.args.topology.now of c.args.layer.now c.in-Some.geometries.now c.in-Some.ensures.found).0
+returns-in_err-add_geometries-clause-layer c = λ m of. layer_holds c.from_residual.result _ c.from_residual.ensures.1 (named_features m c.args.topology.now of c.args.layer.now c.in-Some.geometries.now c.in-Some.ensures.found).0
 
 pub returns-in_err-lists_by-clause-layer : goal.returns-in_err-lists_by-clause-layer
-returns-in_err-lists_by-clause-layer c = λ m of. layer_stands c.from_residual-in_err-lists_by.result _ c.from_residual-in_err-lists_by.ensures.1 (named_features m c.args.topology.now of c.args.layer.now c.in-Some.geometries.now c.in-Some.ensures.found).0
+returns-in_err-lists_by-clause-layer c = λ m of. layer_holds c.from_residual-in_err-lists_by.result _ c.from_residual-in_err-lists_by.ensures.1 (named_features m c.args.topology.now of c.args.layer.now c.in-Some.geometries.now c.in-Some.ensures.found).0
 
 pub returns-clause-layer : goal.returns-clause-layer
 returns-clause-layer c = λ m of. layer_found _ _ (named_features m c.args.topology.now of c.args.layer.now c.in-Some.geometries.now c.in-Some.ensures.found).0

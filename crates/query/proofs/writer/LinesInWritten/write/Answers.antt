@@ -1,11 +1,11 @@
 use Rattle.std.proofs.Common.{◌∙◌}
 use Rattle.geojson_io.specs.CollectionText.{line_text}
-use Rattle.arcs.proofs.TextsLeft.{text_more, text_part, texts_begun, texts_done}
+use Rattle.arcs.proofs.TextsLeft.{text_more, text_part, texts_started, texts_done}
 use Rattle.query.proofs.writer.LinesInWritten.write.Goals as goal
 
 pub loop-line-init : goal.loop-line-init
 loop-line-init g c =
-    texts_begun (line_text c.args.self.now.1.now) c.args.self.now.0.now.arcs c.into_iter-line-iterator.result (g.W.Sink.seen c.args.sink.now)
+    texts_started (line_text c.args.self.now.1.now) c.args.self.now.0.now.arcs c.into_iter-line-iterator.result (g.W.Sink.seen c.args.sink.now)
     (c.into_iter-line-iterator.ensures.into_iter_gives ∙ c.iter-line-items.ensures.arcs)
 
 pub loop-line-preserved : goal.loop-line-preserved

@@ -12,9 +12,9 @@ returns c =
     let arcs = c.args.arcs.now.arcs in
     cmp_from_yields_List (λ x y. y ≡ x) _ (option_cmp step_cmp) _ c.cmp.ensures.ran
     (YieldsList-from_map _ (step_along arcs)
-    (YieldsList-from_chain (YieldsList-from_slice (drop c.args.place c.args.used.now) cc) (YieldsList-from_slice (take c.args.place c.args.used.now) cc) (cc) (cc))
+    (YieldsList-from_chain (YieldsList-from_slice (drop c.args.index c.args.used.now) cc) (YieldsList-from_slice (take c.args.index c.args.used.now) cc) (cc) (cc))
     c.map.ensures.closure (λ x r q k. search rules))
     (λ it e. YieldsList-from_map _ (step_along arcs)
-    (YieldsList-from_chain (YieldsList-from_slice (drop c.args.other_place c.args.other.now) cc) (YieldsList-from_slice (take c.args.other_place c.args.other.now) cc) (cc) (cc))
+    (YieldsList-from_chain (YieldsList-from_slice (drop c.args.other_index c.args.other.now) cc) (YieldsList-from_slice (take c.args.other_index c.args.other.now) cc) (cc) (cc))
     (ap map_callee e ∙ c.map-2.ensures.closure) (λ x r q k. search rules))
     (λ x y. search rules)

@@ -3,7 +3,7 @@ use Rattle.std.specs.Ordering.{is_lt}
 use Rattle.std.proofs.lemmas.List.Sorted.{answers_always, ranks_by}
 use Rattle.topo.specs.GeometryOrder.Keys.{keyed_cmp}
 use Rattle.topo.specs.declared.geometry_order.sorting.Keyed.{Keyed}
-use Rattle.topo.proofs.GeometryOrderLemmas.KeysStand.{keyed_total, sorted_without}
+use Rattle.topo.proofs.GeometryOrderLemmas.KeysHold.{keyed_total, sorted_without}
 use Rattle.topo.proofs.geometry_order.sorting.sorted_by_keys.Goals as goal
 
 pub returns : goal.returns

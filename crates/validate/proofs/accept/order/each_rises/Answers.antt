@@ -11,7 +11,7 @@ geometries_rise-requires-clause-there c =
     (subst (LayersHaveFeatures arcs) (drop_item c.args.layers.now c.loop-layer.layer-index c.layer-item.result c.loop-layer-test.true c.layer-item.is) c.loop-layer.invariant.there).0
 
 pub loop-layer-init : goal.loop-layer-init
-loop-layer-init c = record { noted = c.new-order.ensures c.args.table.now.arcs; there = c.requires.there; rest = refl }
+loop-layer-init c = record { recorded = c.new-order.ensures c.args.table.now.arcs; there = c.requires.there; rest = refl }
 
 pub returns-then-not-branch : goal.returns-then-not-branch
 returns-then-not-branch c =
@@ -28,7 +28,7 @@ loop-layer-preserved c =
     let i = c.loop-layer.layer-index in
     let parts = drop_item c.args.layers.now i c.layer-item.result c.loop-layer-test.true c.layer-item.is in
     record {
-      noted = c.geometries_rise.ensures.noted;
+      recorded = c.geometries_rise.ensures.recorded;
       there = (subst (LayersHaveFeatures arcs) parts c.loop-layer.invariant.there).1;
       rest = ap (λ b. b && spec.each_rises arcs (drop (i + 1) c.args.layers.now))
           (sym c.if-not-branch.false ∙ c.in_ok-geometries_rise.ensures.rise ∙ ap (spec.rises (geometry_cmp arcs)) c.geometries.ensures)

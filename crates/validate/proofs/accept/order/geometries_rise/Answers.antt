@@ -28,7 +28,7 @@ loop-geometry-preserved c =
     let i = c.loop-geometry.geometry-index in
     record {
       there = subst (HaveFeatures c.args.table.now.arcs) (drop_item others i c.geometry-item.result c.loop-geometry-test.true c.geometry-item.is) c.loop-geometry.invariant.there.1;
-      noted = c.order.ensures.noted;
+      recorded = c.order.ensures.recorded;
       rest = sym (rising_step cmp c.loop-geometry.before.now c.geometry-item.result (drop (i + 1) others) c.is_lt.result
           (c.is_lt.ensures ∙ ap is_lt c.in_ok-order.ensures.order) c.if-not-is_lt.false)
           ∙ ap (λ w. rises cmp (c.loop-geometry.before.now ∷ w)) (sym (drop_item others i c.geometry-item.result c.loop-geometry-test.true c.geometry-item.is))

@@ -1,7 +1,7 @@
 use Rattle.std.proofs.Common.{◌∙◌, arith, sym}
 use Rattle.lines.proofs.Positions.{position_true}
 use Rattle.normalize.proofs.ArcListsLemmas.RunningOn.{line_is_empty, line_is_short, line_uses_twice, tangled}
-use Rattle.normalize.proofs.ArcListsLemmas.Trails.{line_told}
+use Rattle.normalize.proofs.ArcListsLemmas.Trails.{line_says}
 use Rattle.normalize.proofs.arc_lists.lists.ArcLists.line.Goals as goal
 
 pub returns-then-count-lt1 : goal.returns-then-count-lt1
@@ -21,7 +21,7 @@ pub returns-then-branch : goal.returns-then-branch
 returns-then-branch c =
     let lists = c.args.self.now in
     let once = c.in_ok-are_once.ensures c.if-branch.true in
-    line_told lists.arcs.now lists.summaries.items lists.labels.items lists.known lists.labelled c.args.used.now c.in-Some.start c.in-Some.end c.in-Some.ensures.runs
+    line_says lists.arcs.now lists.summaries.items lists.labels.items lists.known lists.labelled c.args.used.now c.in-Some.start c.in-Some.end c.in-Some.ensures.runs
     once.simple once.labels.some once.labels.once
 
 pub returns-then-branch-2 : goal.returns-then-branch-2

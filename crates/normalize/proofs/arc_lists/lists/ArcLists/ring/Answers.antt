@@ -1,6 +1,6 @@
 use Rattle.std.proofs.Common.{arith}
 use Rattle.normalize.proofs.ArcListsLemmas.RunningOn.{agree_at, differ, ring_is_open, ring_is_short, ring_uses_twice, tangled}
-use Rattle.normalize.proofs.ArcListsLemmas.Trails.{ring_told}
+use Rattle.normalize.proofs.ArcListsLemmas.Trails.{ring_says}
 use Rattle.normalize.proofs.arc_lists.lists.ArcLists.ring.Goals as goal
 
 pub returns-then-ne : goal.returns-then-ne
@@ -20,7 +20,7 @@ pub returns-then-branch : goal.returns-then-branch
 returns-then-branch c =
     let lists = c.args.self.now in
     let once = c.in_ok-are_once.ensures c.if-branch.true in
-    ring_told lists.arcs.now lists.summaries.items lists.labels.items lists.known lists.labelled c.args.used.now c.in-Some.start c.in-Some.end c.in-Some.ensures.runs
+    ring_says lists.arcs.now lists.summaries.items lists.labels.items lists.known lists.labelled c.args.used.now c.in-Some.start c.in-Some.end c.in-Some.ensures.runs
     once.simple once.labels.some once.labels.once (agree_at c.in-Some.start c.in-Some.end c.ne.result c.ne.ensures c.if-ne.false)
 
 pub returns-then-branch-2 : goal.returns-then-branch-2

@@ -1,7 +1,7 @@
 use Rattle.std.proofs.Common.{◌∙◌, sym, ap, rules}
 use Rattle.topo.proofs.FeatureOrder.{equal_bodies_tie, kind_decides}
 use Rattle.topo.proofs.SameBodies.{body_same}
-use Rattle.topo.proofs.GeometryOrderLemmas.BodiesStand.{bodies_decide}
+use Rattle.topo.proofs.GeometryOrderLemmas.BodiesHold.{bodies_decide}
 use Rattle.topo.specs.GeometryOrder.Lists.{bodies_cmp}
 use Rattle.topo.proofs.geometry_order.order.GeometryOrder.order.Goals as goal
 

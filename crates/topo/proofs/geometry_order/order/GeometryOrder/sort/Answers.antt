@@ -1,6 +1,6 @@
 use Rattle.std.proofs.Common.{◌∙◌}
 use Rattle.std.proofs.lemmas.List.Filters.{dedup_is}
-use Rattle.topo.proofs.GeometryOrderLemmas.KeysStand.{sorted_as}
+use Rattle.topo.proofs.GeometryOrderLemmas.KeysHold.{sorted_as}
 use Rattle.topo.proofs.geometry_order.order.GeometryOrder.sort.Goals as goal
 
 pub returns-clause-sorted : goal.returns-clause-sorted
