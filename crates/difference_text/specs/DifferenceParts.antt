@@ -60,16 +60,6 @@ has_other_id a b = not (is_eq (id_cmp a b))
 abbrev pub has_some : {T : Type 0} → Bool → List T → Bool
 has_some before xs = before || nat_lt 0 (length xs)
 
--- the kind of a geometry, by its name in GeoJSON
-abbrev pub kind_name : Body → List ℕ
-kind_name of.Null = codes "null"
-kind_name (of.Point p) = codes "Point"
-kind_name (of.MultiPoint ps) = codes "MultiPoint"
-kind_name (of.Line used) = codes "LineString"
-kind_name (of.MultiLine ls) = codes "MultiLineString"
-kind_name (of.Polygon rs) = codes "Polygon"
-kind_name (of.MultiPolygon ps) = codes "MultiPolygon"
-
 -- a geometry is made of lines, rather than of rings
 abbrev pub has_lines : Body → Bool
 has_lines of.Null = false

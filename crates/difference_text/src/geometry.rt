@@ -1,5 +1,5 @@
 //! What differs between the geometries of two features.
-ghost use Rattle.difference_text.specs.DifferenceParts.{has_lines, kind_name};
+ghost use Rattle.difference_text.specs.DifferenceParts.{has_lines};
 ghost use Rattle.std.specs.Prelude.{◌≡◌};
 
 use chains::ArcRef;
@@ -15,21 +15,6 @@ pub enum GeometryChange {
     Order,
     /// How many vertices only the old one has, and only the new one; each vertex counts once.
     Vertices { gone: usize, new: usize },
-}
-
-/// The kind of a geometry, by its name in GeoJSON.
-pub(crate) fn kind_of(body: &Body) -> &'static str
-    ensures { result.now ≡ kind_name body.now }
-{
-    match body {
-        Body::Null => "null",
-        Body::Point(_) => "Point",
-        Body::MultiPoint(_) => "MultiPoint",
-        Body::Line(_) => "LineString",
-        Body::MultiLine(_) => "MultiLineString",
-        Body::Polygon(_) => "Polygon",
-        Body::MultiPolygon(_) => "MultiPolygon",
-    }
 }
 
 /// Whether a geometry is made of lines, rather than of rings.

@@ -1,7 +1,7 @@
 //! How many vertices only one of two geometries has. Both are given by the arcs of two topologies together: what lies
 //! inside of an arc lies on no other one, so arcs that both use are crossed out, and no vertex of them is looked at.
 use crate::difference::geometries_at;
-use crate::geometry::{GeometryChange, kind_of};
+use crate::geometry::GeometryChange;
 use chains::{ArcRef, ArcTable};
 use compare::{Comparison, LayerPair};
 use grid::Pos;
@@ -49,7 +49,7 @@ impl PassedPoints {
         let news = BodyVertices::of(alloc, table, new)?;
         let gone = self.count_alone(table, &olds, &news);
         let new_ones = self.count_alone(table, &news, &olds);
-        if gone == 0 && new_ones == 0 && kind_of(old) == kind_of(new) {
+        if gone == 0 && new_ones == 0 && old.kind_name() == new.kind_name() {
             return Ok(GeometryChange::Order);
         }
         Ok(GeometryChange::Vertices {

@@ -15,8 +15,8 @@ use crate::shared_text::SharedText;
 use crate::unexpected::unexpected_token;
 use faults::{Fault, FaultKind, OutOfMemory, Step};
 use serde_json::Value;
-use sinks::Kept;
-use sinks::path_text::write_path;
+use sinks::path_text::PathText;
+use sinks::to_bytes;
 use std::alloc::Global;
 
 /// An error, and what is reported of it.
@@ -94,11 +94,7 @@ fn spell_name(alloc: Global, name: Option<&str>) -> Result<Option<String>, OutOf
 fn spell_path(alloc: Global, path: &[Step]) -> Result<String, OutOfMemory>
     ensures { IfOk result (λ s. string_bytes s ≡ quoted (path_text (map turn_of path.now))) }
 {
-    let mut kept = Kept::new(alloc);
-    if write_path(path, &mut kept).is_err() {
-        return Err(OutOfMemory);
-    }
-    let bytes = kept.into_bytes();
+    let bytes = to_bytes(alloc, &PathText(path))?;
     match std::str::from_utf8(bytes.as_slice()) {
         Ok(text) => spell_text(alloc, text),
         Err(_) => Err(OutOfMemory),

@@ -37,3 +37,36 @@ impl<L: CopyIn, R: CopyIn> Form<L, R> {
         }
     }
 }
+
+impl<L, R> Form<L, R> {
+    ghost use Rattle.shapes.specs.Forms.{has_positions, is_null, kind_name};
+
+    /// Whether it is the null geometry.
+    pub fn is_null(&self) -> bool
+        ensures { result ≡ is_null self.now }
+    {
+        matches!(self, Form::Null)
+    }
+
+    /// Whether it is a point or points.
+    pub fn has_positions(&self) -> bool
+        ensures { result ≡ has_positions self.now }
+    {
+        matches!(self, Form::Point(_) | Form::MultiPoint(_))
+    }
+
+    /// The name of its type (RFC 7946, section 1.4); `null` for the null geometry.
+    pub fn kind_name(&self) -> &'static str
+        ensures { result.now ≡ kind_name self.now }
+    {
+        match self {
+            Form::Null => "null",
+            Form::Point(_) => "Point",
+            Form::MultiPoint(_) => "MultiPoint",
+            Form::Line(_) => "LineString",
+            Form::MultiLine(_) => "MultiLineString",
+            Form::Polygon(_) => "Polygon",
+            Form::MultiPolygon(_) => "MultiPolygon",
+        }
+    }
+}

@@ -10,7 +10,6 @@ pub mod Geometries
 pub mod Filling
 pub mod Fitting
 pub mod Once
-pub mod SinkLemmas
 pub mod Said
 pub mod Known
 pub mod Stitched

@@ -17,4 +17,4 @@ pub use same::{is_canonical, is_text_of};
 pub use token_reader::read_parts;
 pub use topology::read_topology;
 pub use validity::faults;
-pub use writer::{text_of, write};
+pub use writer::{Canonical, text_of, write};
