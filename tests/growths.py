@@ -33,7 +33,7 @@ import conditions
 import refusing
 from refusing import TOP
 
-CRATES = ["grid", "faults", "sinks", "lines", "shapes", "geojson_io", "arcs", "chains", "topo", "topo_io", "query", "refine", "merging",
+CRATES = ["grid", "faults", "sinks", "lines", "shapes", "geojson_io", "arcs", "chains", "topo", "topo_text", "topo_io", "query", "refine", "merging",
           "split_heal", "difference_text", "fault_reports", "outputs", "tool"]
 REFUSED = "refused_memory"
 GROUPS = ["parts", "arcs", "maps", "edits"]
@@ -83,9 +83,13 @@ MODULES = {
     "fault_reports::report": "is of the command: tests/refused_memory.py",
     "fault_reports::shared_text": "is of the command: tests/refused_memory.py",
     "fault_reports::written": "is of the command: tests/refused_memory.py",
-    "topo_io::reader::geometry": "has parts of topo_io::read",
-    "topo_io::reader::position": "has parts of topo_io::read",
-    "topo_io::reader::transform": "has parts of topo_io::read",
+    "topo_text::reader": "has parts of topo_io::read_parts_as_value",
+    "topo_text::reader::body": "has parts of topo_io::read_parts_as_value",
+    "topo_text::reader::geometry": "has parts of topo_io::read_parts_as_value",
+    "topo_text::reader::layer": "has parts of topo_io::read_parts_as_value",
+    "topo_text::reader::position": "has parts of topo_io::read_parts_as_value",
+    "topo_text::reader::transform": "has parts of topo_io::read_parts_as_value",
+    "topo_text::validity::transform": "has parts of topo_io::faults",
 }
 LAWS = "laws"  # How names of modules end that are of functions that have no answer: their contracts are what they are for.
 

@@ -42,7 +42,7 @@ TOP = os.path.dirname(os.path.dirname(os.path.abspath(__file__)))
 OTHERS = ["*_tests", "refused_*", "without_memory", "worked_maps", "acceptance", "examples"]
 LAWS = ["theory", "round_trip"]
 VALIDATORS = ["validate"]
-SPEED = ["reading/*/[tT]oken*", "geojson_io/*/[tT]oken*", "topo_io/*/[tT]oken*", "topo_io/*/same*", "validate/*", "normalize/*",
+SPEED = ["reading/*/[tT]oken*", "geojson_io/*/[tT]oken*", "topo_text/*/[tT]oken*", "topo_io/*/same*", "validate/*", "normalize/*",
          "theory/*/Valid*", "topo/*/geometry_order*", "topo/*/GeometryOrder*", "topo/*/layer_laws*",
          "topo/*/LayerLaws*"]
 USERS = ["numerals/*", "fixing/*", "attributes/*", "decimal_*", "decimals/*", "snapping/*", "rounded_maps/*", "rounding/*", "togrid/*",

@@ -6,7 +6,7 @@ ghost use Rattle.geojson_io.specs.Features.{faults_of_text as geojson_faults};
 ghost use Rattle.fault_reports.specs.FaultReports.{array_text};
 ghost use Rattle.fault_reports.specs.declared.features.Format.TheVariants.{GeoJson, Topology};
 ghost use Rattle.std.specs.Prelude.{◌≡◌, IfErr, IfOk};
-ghost use Rattle.topo_io.specs.Roots.{faults_of_text};
+ghost use Rattle.topo_text.specs.Roots.{faults_of_text};
 
 use c_calls::borrowed::{GridNumbers, grid_within};
 use c_calls::options::flag;
