@@ -1,15 +1,12 @@
 //! The types of GeoJSON's objects (RFC 7946, section 1.4).
 ghost use Rattle.decimal_maps.specs.Members.{type_name};
-ghost use Rattle.decimal_maps.specs.Reads.{Gives};
-ghost use Rattle.json.specs.Json.{string};
-ghost use Rattle.std.specs.Prelude.{◌≡◌, ℕ, IfOk, IfSome};
+ghost use Rattle.std.specs.Prelude.{◌≡◌};
 
-use crate::from_tokens::Stop;
-use json::{Reader, Token};
+use json_parts::type_name::TypeName;
 use reading::geometry::GeometryType;
 
 /// A type.
-#[derive(Clone, Copy)]
+#[derive(Clone, Copy, PartialEq, Eq)]
 pub enum Kind {
     FeatureCollection,
     Feature,
@@ -18,11 +15,10 @@ pub enum Kind {
     Simple(GeometryType),
 }
 
-impl Kind {
-    /// The type of that name.
-    pub fn from_name(text: &str) -> Option<Kind>
-        ensures { IfSome result (λ k. text.now ≡ type_name k) }
-    {
+impl TypeName for Kind {
+    ghost names = { λ k s. s ≡ type_name k };
+
+    fn from_name(text: &str) -> Option<Kind> {
         if text == "FeatureCollection" {
             return Some(Kind::FeatureCollection);
         }
@@ -36,18 +32,5 @@ impl Kind {
             Ok(kind) => Some(Kind::Simple(kind)),
             Err(_) => None,
         }
-    }
-}
-
-/// The type that comes next.
-pub fn take_kind<'t>(reader: &mut Reader<'t>) -> Result<Kind, Stop>
-    ensures { IfOk result (λ k. (depth : ℕ) → Gives depth reader.old (string (type_name k)) reader.new) }
-{
-    let Some(Token::String(text)) = reader.next() else {
-        return Err(Stop::Unread);
-    };
-    match Kind::from_name(text) {
-        Some(kind) => Ok(kind),
-        None => Err(Stop::Unread),
     }
 }

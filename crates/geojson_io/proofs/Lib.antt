@@ -3,7 +3,6 @@ pub mod Places
 pub mod Sets
 pub mod Collections
 pub mod Fitting
-pub mod TokenCoordinates
 pub mod TokenMembers
 pub mod TokenPositions
 pub mod TokenShapes

@@ -8,5 +8,5 @@ pub mod validity;
 pub mod writer;
 
 pub use reader::read;
-pub use validity::faults;
+pub use validity::{TextFaults, faults, text_faults};
 pub use writer::write;

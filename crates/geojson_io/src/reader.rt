@@ -22,15 +22,15 @@ pub(crate) mod position;
 use crate::reader::feature::{FeatureElement, read_feature};
 use crate::reader::geometry::read_geometry;
 use crate::reader::position::Position;
-use crate::token_reader;
+use crate::token_reader::{self, TextRead};
 use crate::validity::validate;
 use faults::fault::{Fault, FaultKind};
 use grid::transform::Grid;
+use json_parts::stop::Stop;
 use reading::document::document;
 use reading::geometry::GeometryType;
 use reading::info::no_properties;
 use reading::part::{one, read_list_member, type_fault, type_name};
-use reading::tokens::from_tokens::Stop;
 use serde_json::Value;
 use shapes::feature::Feature;
 use shapes::layer::feature_set;
@@ -179,7 +179,8 @@ fn read_text(alloc: Global, bytes: &[u8], grid: &Grid) -> Result<Vec<Feature>, F
     ensures err { IfErr result (λ f. LeastOrWant (faults_of_text grid.now bytes.now) f) }
 {
     match token_reader::read_features(alloc, bytes, grid) {
-        Ok(features) => Ok(features),
+        Ok(TextRead::Read(features)) => Ok(features),
+        Ok(_) => Err(Fault::here(alloc, FaultKind::NotJson)),
         Err(Stop::OutOfMemory) => Err(Fault::here(alloc, FaultKind::OutOfMemory)),
         Err(Stop::Unread) => read_as_value(alloc, bytes, grid),
     }

@@ -2,6 +2,7 @@
 ghost use Rattle.reading.specs.FaultLists.Ascending.{IsAscending};
 ghost use Rattle.reading.specs.FaultLists.Found.{AreFound, pairs_of};
 ghost use Rattle.geojson_io.specs.Features.{faults_of_text, geojson_faults, root_faults};
+ghost use Rattle.geojson_io.specs.TextFaults.{AreTextFaults};
 ghost use Rattle.reading.specs.Fault.{LeastOrWant};
 ghost use Rattle.serde_json.specs.View.{view};
 ghost use Rattle.std.specs.Prelude.{◌≡◌, IfErr, IfOk, OnOk, []};
@@ -11,18 +12,18 @@ mod geometry;
 mod position;
 
 use crate::reader::{Root, root_of};
-use crate::token_reader;
+use crate::token_reader::{self, TextRead};
 use crate::validity::feature::{FeatureIn, judge_feature};
 use crate::validity::geometry::judge_geometry;
 use faults::OutOfMemory;
 use faults::fault::{Fault, FaultKind};
 use grid::transform::Grid;
+use json_parts::stop::Stop;
 use reading::document::document;
 use reading::fault_lists::found::{Wanted, first_or_none, one, one_of};
 use reading::fault_lists::judge::ListOf;
 use reading::fault_lists::members::judge_member;
 use reading::fault_lists::types::type_fault;
-use reading::tokens::from_tokens::Stop;
 use serde_json::Value;
 use std::alloc::Global;
 
@@ -87,6 +88,29 @@ fn judge_text(alloc: Global, bytes: &[u8], grid: &Grid) -> Result<Vec<Fault>, Ou
     }
 }
 
+/// The faults of a text, or the byte from which on it is no JSON.
+#[derive(Drop)]
+pub enum TextFaults {
+    NotJson(usize),
+    Faults(Vec<Fault>),
+}
+
+/// All faults of a GeoJSON text, as those of `faults`, or where it stops being JSON, of which no value is made then.
+///
+/// # Errors
+/// Where memory is refused.
+#[tactic(auto, using(crate::proofs::Ascending::if_in_order))]
+pub fn text_faults(alloc: Global, bytes: &[u8], grid: &Grid) -> Result<TextFaults, OutOfMemory>
+    ensures { IfOk result (AreTextFaults grid.now bytes.now) }
+{
+    match token_reader::read_features(alloc, bytes, grid) {
+        Ok(TextRead::Read(_)) => Ok(TextFaults::Faults(Vec::new(alloc))),
+        Ok(TextRead::NotJson(at)) => Ok(TextFaults::NotJson(at)),
+        Err(Stop::OutOfMemory) => Err(OutOfMemory),
+        _ => Ok(TextFaults::Faults(judge_text(alloc, bytes, grid)?)),
+    }
+}
+
 /// All faults of a GeoJSON text, by path and then by number: none where `read` accepts it, else the first is
 /// the one that `read` answers.
 ///
@@ -100,9 +124,8 @@ pub fn faults(alloc: Global, bytes: &[u8], grid: &Grid) -> Result<Vec<Fault>, Ou
     ensures all { IfOk result (λ fs. pairs_of fs.items ≡ faults_of_text grid.now bytes.now) }
     ensures sorted { IfOk result (λ fs. IsAscending (pairs_of fs.items)) }
 {
-    match token_reader::read_features(alloc, bytes, grid) {
-        Ok(_) => Ok(Vec::new(alloc)),
-        Err(Stop::OutOfMemory) => Err(OutOfMemory),
-        Err(Stop::Unread) => Ok(judge_text(alloc, bytes, grid)?),
+    match text_faults(alloc, bytes, grid)? {
+        TextFaults::NotJson(_) => Ok(one(alloc, FaultKind::NotJson)?),
+        TextFaults::Faults(faults) => Ok(faults),
     }
 }

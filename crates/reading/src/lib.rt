@@ -6,6 +6,7 @@
 //! the first error: by path, then by number.
 #![tactic(auto)]
 
+pub mod converted;
 pub mod document;
 pub mod fault_lists;
 pub mod geometry;

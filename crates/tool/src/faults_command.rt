@@ -5,9 +5,10 @@ use command_line::files::{Files, read_all};
 use command_line::refusal::Refusal;
 use command_line::status::Status;
 use fault_reports::{
-    FaultReport, Format, reports, spell_text, write_first_lines, write_json, write_lines,
+    FaultReport, Format, report_of_end, reports, spell_text, write_first_lines, write_json, write_lines,
 };
 use faults::OutOfMemory;
+use geojson_io::TextFaults;
 use grid::Grid;
 use sinks::{Sink, WriteFault, put};
 use std::alloc::Global;
@@ -43,10 +44,14 @@ fn found_in(
     text: &[u8],
 ) -> Result<Vec<FaultReport>, OutOfMemory> {
     match grid {
-        Some(grid) => {
-            let faults = geojson_io::faults(alloc, text, grid)?;
-            reports(alloc, Format::GeoJson, text, faults)
-        }
+        Some(grid) => match geojson_io::text_faults(alloc, text, grid)? {
+            TextFaults::Faults(faults) => reports(alloc, Format::GeoJson, text, faults),
+            TextFaults::NotJson(at) => {
+                let mut found = Vec::new(alloc);
+                found.push(report_of_end(alloc, text, at)?)?;
+                Ok(found)
+            }
+        },
         None => {
             let faults = topo_io::faults(alloc, text)?;
             reports(alloc, Format::Topology, text, faults)
