@@ -1,6 +1,7 @@
 pub mod Ascending
 pub mod Places
 pub mod Sets
+pub mod Sound
 pub mod Collections
 pub mod Fitting
 pub mod TokenCoordinates

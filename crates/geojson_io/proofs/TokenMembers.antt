@@ -7,8 +7,8 @@ use Rattle.faults.specs.declared.fault.FaultKind.TheVariants.{UnknownType}
 use Rattle.std.specs.Prelude.{unwrap_or, if◌then◌else◌}
 use Rattle.geojson_io.specs.Features.{element_of_features_faults, feature_members, feature_named, feature_of, root_faults, root_geometry, root_named, root_type, features_by, geojson_faults, features_of, faults_of_text, features_of_text}
 use Rattle.geojson_io.specs.contracts.reader.RootPartialEq.TheImpl as root_eq
-use Rattle.geojson_io.specs.declared.reader.Root.{Root}
-use Rattle.geojson_io.specs.declared.reader.Root.TheVariants as root
+use Rattle.geojson_io.specs.declared.parts.root.Root.{Root}
+use Rattle.geojson_io.specs.declared.parts.root.Root.TheVariants as root
 use Rattle.reading.specs.Info.{IsIdOf, id_faults, properties_faults, properties_of, member_or_null}
 use Rattle.reading.specs.Parts.{named, type_text, unless_null, list_faults, elements}
 use Rattle.reading.proofs.Lists.{zip_map}

@@ -17,8 +17,8 @@ use Rattle.reading.specs.TokenParts.Members.{KnowsMember, KnowsId, KnowsProps}
 use Rattle.geojson_io.specs.Features.{feature_of, element_of_features_faults, root_type}
 use Rattle.geojson_io.specs.Geometries.{geometry_faults, geometry_form}
 use Rattle.geojson_io.specs.TokenCoordinates.{nested_faults, CoordinatesMean}
-use Rattle.geojson_io.specs.declared.reader.Root.{Root}
-use Rattle.geojson_io.specs.declared.reader.Root.TheVariants as root
+use Rattle.geojson_io.specs.declared.parts.root.Root.{Root}
+use Rattle.geojson_io.specs.declared.parts.root.Root.TheVariants as root
 use Rattle.geojson_io.specs.declared.token_reader.coordinates.Coordinates.{Coordinates}
 
 -- ---- a geometry

@@ -2,6 +2,7 @@
 #![tactic(auto)]
 
 pub mod laws;
+mod parts;
 pub mod reader;
 pub mod token_reader;
 pub mod validity;

@@ -13,8 +13,8 @@ mod position;
 mod root;
 mod shape;
 
-use crate::reader::position::Position;
-use crate::token_reader::root::RootFeatures;
+use crate::parts::position::Position;
+use crate::parts::root::RootFeatures;
 use grid::transform::Grid;
 use reading::token_parts::text::read_text;
 use reading::tokens::from_tokens::Stop;

@@ -13,6 +13,7 @@ pub mod info;
 pub mod number;
 pub mod outline;
 pub mod part;
+pub mod parts;
 pub mod shape;
 pub mod token_parts;
 pub mod tokens;

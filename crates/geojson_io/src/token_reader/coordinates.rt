@@ -4,7 +4,7 @@ ghost use Rattle.json.specs.Token as spec;
 ghost use Rattle.reading.specs.Tokens.Reads.{Reads};
 ghost use Rattle.std.specs.Prelude.{◌≡◌, ◌∷◌, [], IfOk};
 
-use crate::reader::position::Position;
+use crate::parts::position::Position;
 use grid::pos::Pos;
 use json::Reader;
 use reading::token_parts::list::{ListOf, single};

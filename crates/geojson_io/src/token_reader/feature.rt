@@ -7,9 +7,9 @@ ghost use Rattle.serde_json.specs.Data.{Members, no_members, object};
 ghost use Rattle.std.specs.Prelude.{◌≡◌, [], IfOk};
 ghost use Rattle.reading.specs.TokenParts.Members.{KnowsId};
 
-use crate::reader::Root;
-use crate::reader::feature::FeatureElement;
-use crate::reader::position::Position;
+use crate::parts::feature::FeatureElement;
+use crate::parts::position::Position;
+use crate::parts::root::Root;
 use crate::token_reader::geometry::read_geometry;
 use crate::token_reader::kind::take_root;
 use json::Reader;

@@ -7,7 +7,7 @@ ghost use Rattle.reading.specs.Plain.{plain_form};
 ghost use Rattle.serde_json.specs.Data.{Members, object};
 ghost use Rattle.std.specs.Prelude.{◌≡◌, [], IfOk};
 
-use crate::reader::position::Position;
+use crate::parts::position::Position;
 use crate::token_reader::coordinates::{Coordinates, read_coordinates};
 use crate::token_reader::kind::take_geometry_type;
 use crate::token_reader::shape::shape_of;

@@ -5,7 +5,7 @@ ghost use Rattle.reading.specs.Types.{geometry_named};
 ghost use Rattle.serde_json.specs.Data.{string};
 ghost use Rattle.std.specs.Prelude.{◌≡◌, ◌<◌, ℕ, List, length, Ok, IfOk, OnOk};
 
-use crate::reader::{Root, root_named};
+use crate::parts::root::{Root, root_named};
 use json::{Reader, Token};
 use reading::geometry::GeometryType;
 use reading::tokens::from_tokens::Stop;

@@ -7,7 +7,7 @@ ghost use Rattle.serde_json.specs.Find.{as_i64, of_integer};
 ghost use Rattle.serde_json.specs.Read.{number_of};
 ghost use Rattle.std.specs.Prelude.{◌≡◌, ◌∷◌, ℤ, Some, Ok, IfOk};
 
-use crate::reader::position::Position;
+use crate::parts::position::Position;
 use grid::pos::Pos;
 use grid::transform::Axis;
 use json::Reader;

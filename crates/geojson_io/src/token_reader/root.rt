@@ -8,9 +8,9 @@ ghost use Rattle.reading.specs.TokenParts.Members.{KnowsId};
 ghost use Rattle.serde_json.specs.Data.{Members, object};
 ghost use Rattle.std.specs.Prelude.{◌≡◌, [], ◌∷◌, Some, map, IfOk};
 
-use crate::reader::feature::FeatureElement;
-use crate::reader::position::Position;
-use crate::reader::{Root, bare_feature};
+use crate::parts::feature::FeatureElement;
+use crate::parts::position::Position;
+use crate::parts::root::{Root, RootFeatures, bare_feature};
 use crate::token_reader::coordinates::Coordinates;
 use crate::token_reader::feature::{FeatureParts, feature_of_parts, nothing_known};
 use crate::token_reader::geometry::GeometryParts;
@@ -159,12 +159,6 @@ fn features_of_members(alloc: Global, members: RootMembers) -> Result<Vec<Featur
         }
         None => Err(Stop::Unread),
     }
-}
-
-/// The features of a root.
-#[derive(Clone, Copy)]
-pub struct RootFeatures {
-    pub position: Position,
 }
 
 impl FromTokens for RootFeatures {

@@ -3,7 +3,7 @@ use Rattle.std.proofs.lemmas.Result.{IfOk-weaker}
 use Rattle.geojson_io.specs.TokenMembers.{KnowsFeatures}
 use Rattle.geojson_io.specs.Features.{bare, feature_of}
 use Rattle.geojson_io.specs.Geometries.{typed_form}
-use Rattle.geojson_io.specs.declared.reader.Root.TheVariants as root
+use Rattle.geojson_io.specs.declared.parts.root.Root.TheVariants as root
 use Rattle.serde_json.specs.Data.{object}
 use Rattle.geojson_io.proofs.TokenMembers.{root_of_kind, collection_read, one_read}
 use Rattle.geojson_io.proofs.token_reader.root.features_of_members.Goals as goal

@@ -2,7 +2,7 @@ use Rattle.std.proofs.Common.{◌≡◌, Some, subst, arith}
 use Rattle.std.proofs.lemmas.Result.{IfOk-weaker}
 use Rattle.serde_json.specs.Data.{object}
 use Rattle.geojson_io.specs.TokenMembers.{KnowsRootType}
-use Rattle.geojson_io.specs.declared.reader.Root.TheVariants as root
+use Rattle.geojson_io.specs.declared.parts.root.Root.TheVariants as root
 use Rattle.geojson_io.proofs.TokenMembers.{element_faultless}
 use Rattle.geojson_io.proofs.token_reader.feature.FeatureElementFromTokens.read.Goals as goal
 

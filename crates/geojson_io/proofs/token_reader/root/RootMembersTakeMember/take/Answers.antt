@@ -3,7 +3,7 @@ use Rattle.std.specs.Prelude.{unwrap_or}
 use Rattle.std.proofs.lemmas.Result.{on_ok_weaker}
 use Rattle.serde_json.specs.Data.{string}
 use Rattle.reading.proofs.TokenPartsLemmas.Members.{same_name, other_name}
-use Rattle.geojson_io.specs.declared.reader.Root.TheVariants as root
+use Rattle.geojson_io.specs.declared.parts.root.Root.TheVariants as root
 use Rattle.geojson_io.proofs.TokenMembers.{same_root, with_type, collection_goes_on, feature_goes_on, geometry_goes_on, features_first, coordinates_first, feature_first}
 use Rattle.geojson_io.proofs.token_reader.root.RootMembersTakeMember.take.Goals as goal
 
