@@ -8,7 +8,7 @@ Times on a machine whose processors and caches others use too disagree from run 
 What a cache that is too small costs is not in them. Each row is a program at about 250,000 positions and at the double:
 a command on a topology or on GeoJSON, a merge of 16 and of 32 shards of one size, a topology read and built anew, or one of
 two removals (what a program that does two more of them takes more, halved). A command stands beside the JSON values of its
-files alone (`examples values`). Beside a ratio stands its goal, which no test asks for; a ratio that misses it is marked
+files alone (`examples values`), and on GeoJSON whose last byte is missing beside the whole text. Beside a ratio stands its goal, which no test asks for; a ratio that misses it is marked
 by an exclamation mark. It needs valgrind.
 """
 
@@ -36,15 +36,19 @@ GREATEST_OF_REMOVALS = 2.2
 GOALS = {"check": 0.75, "neighbors": 0.68, "merge of one file": 0.78, "mesh": 0.85, "feature": 0.95, "build": 1.0}
 VALUE, VALUE_OF_GEOJSON = "the value alone", "the value of GeoJSON alone"
 
+# how many times as much a command on GeoJSON may take where the last byte is missing, and its status then
+GREATEST_OF_CUT, REFUSED = 1.5, 4
+CUT = ", the last byte missing"
 
-def count(words):
-    """How many instructions a program executes."""
+
+def count(words, status=0):
+    """How many instructions a program executes that ends with a status."""
     ran = subprocess.run(
         ["valgrind", "--tool=callgrind", "--callgrind-out-file=/dev/null", *words],
         stdout=subprocess.DEVNULL, stderr=subprocess.PIPE, text=True, check=False,
     )
     found = re.search(r"Collected : (\d+)", ran.stderr)
-    if ran.returncode != 0 or not found:
+    if ran.returncode != status or not found:
         raise Failed(f"{' '.join(words[:3])} ended with {ran.returncode}")
     return int(found[1])
 
@@ -53,12 +57,25 @@ def command_rows(source, whole, shards):
     """Programs on a map's GeoJSON, on its topology and on the shards, by their titles."""
     told = {title: words for title, (words, _, _) in commands(whole, shards).items()}
     told[VALUE] = [BENCH, "values", whole]
-    told["build"] = [TOOL, "build", *GRID, f"a={source}"]
+    told |= geojson_rows(source)
     told[VALUE_OF_GEOJSON] = [BENCH, "values", source]
     for kind in ("cut", "whole"):
         told[f"merge by halves, {kind}"] = [BENCH, "merge", kind, "halves", *shards]
     told["read and built anew"] = [BENCH, "merge", "whole", "left", whole]
     return told
+
+
+def geojson_rows(source):
+    """The commands on GeoJSON."""
+    return {"build": [TOOL, "build", *GRID, f"a={source}"], "faults": [TOOL, "faults", *GRID, source]}
+
+
+def cut_rows(source):
+    """Those on a copy of the text without its last byte, which is written beside it."""
+    cut = f"{source}.cut"
+    with open(source, "rb") as whole, open(cut, "wb") as file:
+        file.write(whole.read()[:-1])
+    return {f"{title}{CUT}": words for title, words in geojson_rows(cut).items()}
 
 
 def removal_rows(folder, positions, seed):
@@ -78,6 +95,7 @@ def counts_at(folder, positions, shards, seed, pool):
     size, whole, parts = make_topologies(folder, positions, seed, shards)
     source = os.path.join(folder, "tiling.json")
     single = {title: pool.submit(count, words) for title, words in command_rows(source, whole, parts).items()}
+    single |= {title: pool.submit(count, words, REFUSED) for title, words in cut_rows(source).items()}
     pairs = {
         title: [pool.submit(count, words) for words in both]
         for title, both in removal_rows(folder, positions, seed).items()
@@ -90,6 +108,8 @@ def counts_at(folder, positions, shards, seed, pool):
 def goal_of(title):
     if "halves" in title or title == "merge of shards":
         return GREATEST_OF_MERGES
+    if title.endswith(CUT):
+        return GREATEST_OF_COMMANDS
     return GREATEST_OF_REMOVALS if "," in title else GREATEST_OF_COMMANDS
 
 
@@ -107,10 +127,13 @@ def main():
             os.mkdir(folder)
             told.append(counts_at(folder, times * words.positions, times * SHARDS, words.seed, pool))
     (size, before), (double, after) = told
+    on_geojson = geojson_rows("")
     print(f"| Program | Millions at {size:,} positions | At {double:,} | Times the value alone | Grows |\n|---|---|---|---|---|")
     for title, each in before.items():
-        value = before[VALUE_OF_GEOJSON if title == "build" else VALUE]
+        value = before[VALUE_OF_GEOJSON if title.removesuffix(CUT) in on_geojson else VALUE]
         ratio = marked(each / value, GOALS[title]) if title in GOALS else f"{each / value:.2f}"
+        if title.endswith(CUT):
+            ratio += f", of the whole text {marked(each / before[title.removesuffix(CUT)], GREATEST_OF_CUT)}"
         growth = marked(after[title] / each, goal_of(title))
         print(f"| {title} | {each / 1e6:,.0f} | {after[title] / 1e6:,.0f} | {ratio} | {growth} |")
 

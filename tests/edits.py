@@ -41,7 +41,7 @@ BODIES = "tests/wrong_bodies.toml"
 MOST = 8
 MOST_IN_ALL = 240
 # Crates of at most 70 functions, which are proved in some four processor minutes at most.
-SHORT = ("faults", "grid", "lines", "merging", "numerals", "shapes", "sinks")
+SHORT = ("faults", "grid", "lines", "merging", "numerals")
 MOST_FUNCTIONS = 70
 WRONG_BODIES = 25
 LINE = re.compile(r"(file|old|new):(?: (.*))?")

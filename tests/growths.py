@@ -33,7 +33,7 @@ import conditions
 import refusing
 from refusing import TOP
 
-CRATES = ["grid", "faults", "sinks", "lines", "shapes", "geojson_io", "arcs", "chains", "topo", "topo_io", "query", "refine", "merging",
+CRATES = ["grid", "faults", "sinks", "lines", "shapes", "geojson_io", "arcs", "chains", "topo", "topo_text", "topo_io", "query", "refine", "merging",
           "split_heal", "difference_text", "fault_reports", "outputs", "tool"]
 REFUSED = "refused_memory"
 GROUPS = ["parts", "arcs", "maps", "edits"]
@@ -73,19 +73,24 @@ MODULES = {
     "arcs::arc_marks": "has parts of refine::remove and split_heal::heal",
     "arcs::ends": "has parts of split_heal::heal",
     "topo::used_arcs": "has parts of refine::remove",
-    "sinks::path_text": "is of the command: tests/refused_memory.py",
+    "outputs::check_text": "is of the command: tests/refused_memory.py",
     "outputs::info_text": "is of the command: tests/refused_memory.py",
     "difference_text": "is of the command: tests/refused_memory.py",
     "difference_text::difference": "is of the command: tests/refused_memory.py",
     "difference_text::object": "is of the command: tests/refused_memory.py",
     "difference_text::text": "is of the command: tests/refused_memory.py",
+    "fault_reports::files": "is of the command: tests/refused_memory.py",
     "fault_reports::line_columns": "is of the command: tests/refused_memory.py",
     "fault_reports::report": "is of the command: tests/refused_memory.py",
     "fault_reports::shared_text": "is of the command: tests/refused_memory.py",
     "fault_reports::written": "is of the command: tests/refused_memory.py",
-    "topo_io::reader::geometry": "has parts of topo_io::read",
-    "topo_io::reader::position": "has parts of topo_io::read",
-    "topo_io::reader::transform": "has parts of topo_io::read",
+    "topo_text::reader": "has parts of topo_io::read_parts_as_value",
+    "topo_text::reader::body": "has parts of topo_io::read_parts_as_value",
+    "topo_text::reader::geometry": "has parts of topo_io::read_parts_as_value",
+    "topo_text::reader::layer": "has parts of topo_io::read_parts_as_value",
+    "topo_text::reader::position": "has parts of topo_io::read_parts_as_value",
+    "topo_text::reader::transform": "has parts of topo_io::read_parts_as_value",
+    "topo_text::validity::transform": "has parts of topo_io::faults",
 }
 LAWS = "laws"  # How names of modules end that are of functions that have no answer: their contracts are what they are for.
 

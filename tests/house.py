@@ -42,12 +42,13 @@ TOP = os.path.dirname(os.path.dirname(os.path.abspath(__file__)))
 OTHERS = ["*_tests", "refused_*", "without_memory", "worked_maps", "acceptance", "examples"]
 LAWS = ["theory", "round_trip"]
 VALIDATORS = ["validate"]
-SPEED = ["reading/*/[tT]oken*", "geojson_io/*/[tT]oken*", "topo_io/*/[tT]oken*", "topo_io/*/same*", "validate/*", "normalize/*",
+SPEED = ["reading/*/[tT]oken*", "geojson_io/*/[tT]oken*", "topo_text/*/[tT]oken*", "topo_io/*/same*", "validate/*", "normalize/*",
          "theory/*/Valid*", "topo/*/geometry_order*", "topo/*/GeometryOrder*", "topo/*/layer_laws*",
          "topo/*/LayerLaws*"]
 USERS = ["numerals/*", "fixing/*", "attributes/*", "decimal_*", "decimals/*", "snapping/*", "rounded_maps/*", "rounding/*", "togrid/*",
          "command_line/src/togrid*", "compare/*", "c_calls/*", "noshinka/*", "report_texts/*", "reading/*/fault_lists*", "reading/*/FaultLists*",
-         "*/[vV]alidity/*", "*/validity.rt", "*/Validity.antt", "text_parts/*", "fault_reports/*", "difference_text/*", "outputs/*/[iI]nfo*",
+         "*/[vV]alidity/*", "*/validity.rt", "*/Validity.antt", "sinks/*/choices*", "sinks/*/sequences*", "fault_reports/*", "difference_text/*", "outputs/*/[iI]nfo*",
+         "outputs/*/[cC]heck*",
          "tool/src/diff*", "tool/src/check*", "tool/src/faults*", "query/*_by*", "query/*By*", "query/*/[kK]eyed*",
          "query/*/properties*", "query/*/distinct*", "query/*/info*", "query/*/sequence*", "query/*edges*", "query/*/borders*"]
 AREAS = {"core": [11800, 42000], "speed": [4800, 13900], "users": [18000, 23300]}  # lines of code and of proofs that are wanted

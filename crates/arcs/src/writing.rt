@@ -6,9 +6,8 @@ ghost use Rattle.arcs.specs.ArcTexts.{position_text, differences_text, arc_posit
 
 use crate::table::{ArcRef, ArcTable};
 use grid::pos::Pos;
-use itoa::Buffer;
-use sinks::written::{Bracketed, Notation, Pair, PairAfterComma, Text, Then, Written};
-use sinks::{Sink, WriteFault, put};
+use sinks::written::{Bracketed, Notation, Number, Pair, PairAfterComma, Written};
+use sinks::{Sink, WriteFault};
 
 /// Positions, by their grid numbers.
 #[derive(Clone, Copy)]
@@ -74,10 +73,10 @@ impl<'a> Written for ArcsText<'a> {
     ghost text = { λ a. joined arc_text a.0.now.arcs };
 
     fn write<W: Sink>(&self, sink: &mut W) -> Result<(), WriteFault> {
-        let mut separator = Text(b"");
+        let mut separator = "";
         for arc in self.0.iter() {
-            match Then(separator, Bracketed(ArcPositions(arc))).write(sink) {
-                Ok(()) => separator = Text(b","),
+            match (separator, Bracketed(ArcPositions(arc))).write(sink) {
+                Ok(()) => separator = ",",
                 Err(fault) => return Err(fault),
             }
         }
@@ -93,7 +92,6 @@ impl Notation<ArcRef> for ArcIndexes {
     ghost text = { λ _ a. index_text a };
 
     fn write_value<W: Sink>(&self, value: &ArcRef, sink: &mut W) -> Result<(), WriteFault> {
-        let mut buffer = Buffer::new();
-        put(sink, buffer.format(value.wide_index()).as_bytes())
+        Number(value.wide_index()).write(sink)
     }
 }

@@ -22,7 +22,7 @@ use Rattle.shapes.specs.Maps.{Layers}
 use Rattle.topo.specs.ItsMap.{ForItsMap}
 use Rattle.topo.specs.Parts.{TopologyParts}
 use Rattle.topo_io.specs.Means.{Means}
-use Rattle.topo_io.specs.Roots.{faults_of_text, grid_of_text}
+use Rattle.topo_text.specs.Roots.{faults_of_text, grid_of_text}
 use Rattle.c_calls.specs.Options.{name_if, scope_of}
 use Rattle.c_calls.specs.declared.refusal.CallRefusal.{CallRefusal}
 use Rattle.c_calls.specs.declared.refusal.CallRefusal.TheVariants.{BadGrid, BadName, BadChoice, NoId, Text, OtherGrid, NoText, BadPlan, NoLayer, OutOfMemory}

@@ -1,22 +1,20 @@
 //! Why a call gives no answer, and how it says so.
-ghost use Rattle.sinks.specs.PathText.PathText.{path_text};
-ghost use Rattle.faults.specs.Fault.{number_of, turn_of};
+ghost use Rattle.faults.specs.Fault.{number_of};
 ghost use Rattle.c_calls.specs.Ends.{IsFaultOutcome, IsRefused};
 ghost use Rattle.c_calls.specs.Why.{IsFaultAt, of_build};
 ghost use Rattle.c_calls.specs.declared.refusal.CallRefusal.TheVariants as refusal;
-ghost use Rattle.std.specs.Prelude.{◌≡◌, ◌⊎◌, IfOk, map};
+ghost use Rattle.std.specs.Prelude.{◌≡◌, ◌⊎◌};
 
 use crate::outcome::CallOutcome;
 use crate::room::put_text;
 use decimals::topology::DecimalFault;
-use faults::{Fault, FaultKind, OutOfMemory, Step};
+use faults::{Fault, FaultKind, OutOfMemory};
 use merging::MergeFault;
 use outputs::built_text::BuildFault;
 use query::QueryFault;
 use rounded_maps::MapsFault;
-use sinks::Kept;
 use sinks::path_text::PathText;
-use sinks::written::Written;
+use sinks::to_bytes;
 use std::alloc::{AllocError, AllocFailed, Global};
 
 /// Why a call gives no answer.
@@ -113,22 +111,11 @@ fn out_of_memory() -> CallOutcome
     outcome_of(5, number(FaultKind::OutOfMemory), 0)
 }
 
-/// The text of a path.
-fn text_of_path(alloc: Global, path: &[Step]) -> Result<Vec<u8>, OutOfMemory>
-    ensures { IfOk result (λ t. t.items ≡ path_text (map turn_of path.now)) }
-{
-    let mut kept = Kept::new(alloc);
-    match PathText(path).write(&mut kept) {
-        Ok(()) => Ok(kept.into_bytes()),
-        Err(_) => Err(OutOfMemory),
-    }
-}
-
 /// Puts the path of the fault of the text at a place at the front of the room, if it fits.
 fn put_fault(alloc: Global, place: usize, fault: &Fault, room: &mut [u8]) -> CallOutcome
     ensures { ((result.status ≡ 5) × (result.fault ≡ 20)) ⊎ IsFaultOutcome place fault.now result room.old room.new }
 {
-    match text_of_path(alloc, fault.path.as_slice()) {
+    match to_bytes(alloc, &PathText(fault.path.as_slice())) {
         Ok(text) => {
             let _is_put = put_text(text.as_slice(), room);
             CallOutcome {

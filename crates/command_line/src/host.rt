@@ -4,8 +4,9 @@ ghost use Rattle.std.specs.Prelude.{◌≡◌, IfOk, IfSome, OnOk};
 
 use crate::ending::refuse;
 use crate::files::{FileFault, Files, OutputFault, Place};
-use crate::refusal::{Refusal, put_words};
+use crate::refusal::Refusal;
 use crate::status::Status;
+use sinks::written::Written;
 use sinks::{Refused, Tap};
 use std::alloc::Global;
 use std::fs::{File, OpenOptions};
@@ -201,6 +202,6 @@ pub fn refuse_words(rt: &HostRuntime, program: &str, kind: io::ErrorKind) -> u8 
         let _ = refuse(program, &Refusal::OutOfMemory, &mut err);
         return Status::OutOfMemory.number();
     }
-    let _ = put_words(&mut err, program, ": a word is not UTF-8\n");
+    let _ = (program, ": a word is not UTF-8\n").write(&mut err);
     Status::Usage.number()
 }

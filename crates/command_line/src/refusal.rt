@@ -3,15 +3,14 @@ ghost use Rattle.command_line.specs.Refusal.{encoding_words, fault_text, kind_te
 ghost use Rattle.command_line.specs.declared.refusal.Refusal.TheVariants as refusal;
 ghost use Rattle.faults.specs.declared.fault.FaultKind.TheVariants.{NoLayer as MissingLayer, OtherGrid as AnotherGrid};
 ghost use Rattle.sinks.specs.Writes.{TookAll, TookPart};
-ghost use Rattle.std.specs.Prelude.{◌≡◌, ◌++◌, OnErr, OnOk, codes, decimal};
+ghost use Rattle.std.specs.Prelude.{◌≡◌, ◌++◌, OnErr, OnOk};
 
 use crate::files::OutputFault;
 use crate::status::Status;
 use faults::{Fault, FaultKind, OutOfMemory};
-use itoa::Buffer;
-use sinks::path_text::{KindNumber, PathText};
-use sinks::written::{Text, Then, Written};
-use sinks::{Sink, WriteFault, put};
+use sinks::path_text::{FaultName, FaultNumber, PathText};
+use sinks::written::{Number, Written};
+use sinks::{Sink, WriteFault};
 use std::alloc::{AllocError, AllocFailed};
 
 /// What is wrong with the words of a command line, where clap lets them through.
@@ -126,6 +125,15 @@ impl<'a> Usage<'a> {
     }
 }
 
+/// What is wrong, with the word, the layer or the file.
+impl<'a> Written for Usage<'a> {
+    ghost text = { λ u. usage_words u ++ (usage_name u ++ usage_end u) };
+
+    fn write<W: Sink>(&self, sink: &mut W) -> Result<(), WriteFault> {
+        (self.words(), self.name(), self.end()).write(sink)
+    }
+}
+
 /// What may help where togrid refuses a text.
 #[derive(Clone, Copy)]
 pub enum Remedy {
@@ -199,8 +207,7 @@ impl<'a> Refusal<'a> {
         ensures whole { OnOk result (TookAll (E.seen err.old) (E.seen err.new) (line_text program.now self.now)) }
         ensures part { OnErr result (TookPart (E.seen err.old) (E.seen err.new) (line_text program.now self.now)) }
     {
-        let reason = Then(self, Text(b"\n"));
-        Then(Text(program.as_bytes()), Then(Text(b": "), reason)).write(err)
+        (program, ": ", self, "\n").write(err)
     }
 }
 
@@ -210,14 +217,14 @@ impl<'a> Written for Refusal<'a> {
 
     fn write<W: Sink>(&self, sink: &mut W) -> Result<(), WriteFault> {
         match self {
-            Refusal::Usage(usage) => write_usage(sink, usage),
-            Refusal::Unreadable(file) => put_words(sink, "cannot read ", file),
+            Refusal::Usage(usage) => usage.write(sink),
+            Refusal::Unreadable(file) => ("cannot read ", file).write(sink),
             Refusal::Text(file, fault) => FaultText(file, fault).write(sink),
             Refusal::TextWith(file, fault, remedy) => {
-                Then(FaultText(file, fault), RemedyText(*remedy)).write(sink)
+                (FaultText(file, fault), RemedyText(*remedy)).write(sink)
             }
-            Refusal::OtherGrid(file) => write_other_grid(sink, file),
-            Refusal::NoLayer(name) => write_no_layer(sink, name),
+            Refusal::OtherGrid(file) => (file, ": ", KindText(FaultKind::OtherGrid)).write(sink),
+            Refusal::NoLayer(name) => (KindText(FaultKind::NoLayer), " ", name).write(sink),
             Refusal::BadPlan => KindText(FaultKind::BadPlan).write(sink),
             Refusal::OutOfMemory => KindText(FaultKind::OutOfMemory).write(sink),
             Refusal::Write => KindText(FaultKind::Write).write(sink),
@@ -268,14 +275,6 @@ impl<'a> From<OutputFault> for Refusal<'a> {
     }
 }
 
-/// Writes two texts, one behind the other.
-pub fn put_words<E: Sink>(err: &mut E, first: &str, second: &str) -> Result<(), WriteFault>
-    ensures whole { OnOk result (TookAll (E.seen err.old) (E.seen err.new) (first.now ++ second.now)) }
-    ensures part { OnErr result (TookPart (E.seen err.old) (E.seen err.new) (first.now ++ second.now)) }
-{
-    Then(Text(first.as_bytes()), Text(second.as_bytes())).write(err)
-}
-
 /// The number and the name of a kind of fault.
 #[derive(Clone, Copy)]
 struct KindText(FaultKind);
@@ -284,8 +283,7 @@ impl Written for KindText {
     ghost text = { λ k. kind_text k.0 };
 
     fn write<W: Sink>(&self, sink: &mut W) -> Result<(), WriteFault> {
-        let name = Text(self.0.name().as_bytes());
-        Then(KindNumber(self.0), Then(Text(b" "), name)).write(sink)
+        (FaultNumber(self.0), " ", FaultName(self.0)).write(sink)
     }
 }
 
@@ -297,22 +295,8 @@ impl<'a> Written for FaultText<'a> {
     ghost text = { λ f. fault_text f.0.now f.1.now };
 
     fn write<W: Sink>(&self, sink: &mut W) -> Result<(), WriteFault> {
-        let path = Then(Text(b" "), PathText(self.1.path.as_slice()));
-        let fault = Then(KindText(self.1.kind), path);
-        Then(Text(self.0.as_bytes()), Then(Text(b": "), fault)).write(sink)
-    }
-}
-
-/// A line or a column in decimal digits.
-#[derive(Clone, Copy)]
-struct PlaceNumber(usize);
-
-impl Written for PlaceNumber {
-    ghost text = { λ d. decimal d.0 };
-
-    fn write<W: Sink>(&self, sink: &mut W) -> Result<(), WriteFault> {
-        let mut buffer = Buffer::new();
-        put(sink, buffer.format(self.0).as_bytes())
+        let path = PathText(self.1.path.as_slice());
+        (self.0, ": ", KindText(self.1.kind), " ", path).write(sink)
     }
 }
 
@@ -325,43 +309,12 @@ impl Written for RemedyText {
 
     fn write<W: Sink>(&self, sink: &mut W) -> Result<(), WriteFault> {
         match self.0 {
-            Remedy::Step => put(sink, b": numbers beyond 180 and 90 need --step"),
-            Remedy::Encoding(line, column) => write_encoding(sink, line, column),
-            Remedy::Unpacking => put(sink, b": compressed, gunzip it first"),
+            Remedy::Step => ": numbers beyond 180 and 90 need --step".write(sink),
+            Remedy::Encoding(line, column) => {
+                let column = (", column ", Number(column), "; try ogr2ogr -oo ENCODING=");
+                (": no UTF-8 at line ", Number(line), column).write(sink)
+            }
+            Remedy::Unpacking => ": compressed, gunzip it first".write(sink),
         }
     }
-}
-
-/// Writes where a text is no UTF-8, and what names its encoding.
-fn write_encoding<W: Sink>(sink: &mut W, line: usize, column: usize) -> Result<(), WriteFault>
-    ensures whole { OnOk result (TookAll (W.seen sink.old) (W.seen sink.new) (encoding_words line column)) }
-    ensures part { OnErr result (TookPart (W.seen sink.old) (W.seen sink.new) (encoding_words line column)) }
-{
-    let column = Then(PlaceNumber(column), Text(b"; try ogr2ogr -oo ENCODING="));
-    let place = Then(PlaceNumber(line), Then(Text(b", column "), column));
-    Then(Text(b": no UTF-8 at line "), place).write(sink)
-}
-
-fn write_usage<W: Sink>(sink: &mut W, usage: &Usage<'_>) -> Result<(), WriteFault>
-    ensures whole { OnOk result (TookAll (W.seen sink.old) (W.seen sink.new) (usage_words usage.now ++ (usage_name usage.now ++ usage_end usage.now))) }
-    ensures part { OnErr result (TookPart (W.seen sink.old) (W.seen sink.new) (usage_words usage.now ++ (usage_name usage.now ++ usage_end usage.now))) }
-{
-    let name = Then(Text(usage.name().as_bytes()), Text(usage.end().as_bytes()));
-    Then(Text(usage.words().as_bytes()), name).write(sink)
-}
-
-fn write_other_grid<W: Sink>(sink: &mut W, file: &str) -> Result<(), WriteFault>
-    ensures whole { OnOk result (TookAll (W.seen sink.old) (W.seen sink.new) (file.now ++ (codes ": " ++ kind_text AnotherGrid))) }
-    ensures part { OnErr result (TookPart (W.seen sink.old) (W.seen sink.new) (file.now ++ (codes ": " ++ kind_text AnotherGrid))) }
-{
-    let kind = Then(Text(b": "), KindText(FaultKind::OtherGrid));
-    Then(Text(file.as_bytes()), kind).write(sink)
-}
-
-fn write_no_layer<W: Sink>(sink: &mut W, name: &str) -> Result<(), WriteFault>
-    ensures whole { OnOk result (TookAll (W.seen sink.old) (W.seen sink.new) (kind_text MissingLayer ++ (codes " " ++ name.now))) }
-    ensures part { OnErr result (TookPart (W.seen sink.old) (W.seen sink.new) (kind_text MissingLayer ++ (codes " " ++ name.now))) }
-{
-    let layer = Then(Text(b" "), Text(name.as_bytes()));
-    Then(KindText(FaultKind::NoLayer), layer).write(sink)
 }

@@ -10,7 +10,7 @@ use Rattle.faults.specs.Fault.{Pair}
 use Rattle.fixing.specs.declared.rules.FixingRules.{FixingRules}
 use Rattle.reading.specs.Fault.{under}
 use Rattle.reading.proofs.Faultless.{under_none, first_none, second_none}
-use Rattle.decimal_maps.specs.Arrays.{ItemsMean}
+use Rattle.json_parts.specs.Arrays.{ItemsMean}
 use Rattle.decimal_faults.specs.Parts.{each_faults}
 
 abbrev pub Values : Type 0

@@ -12,7 +12,7 @@ use Rattle.reading.specs.Outlines.{outline_faults}
 use Rattle.reading.specs.Positions.{position_at}
 use Rattle.reading.proofs.Faultless.{unless_none}
 use Rattle.reading.proofs.Positions.{position_is}
-use Rattle.decimal_maps.specs.Arrays.{ItemsMean, ArrayMeans}
+use Rattle.json_parts.specs.Arrays.{ItemsMean, ArrayMeans}
 use Rattle.decimal_maps.specs.Positions.{IsCoordinate, IsPosition}
 use Rattle.decimal_maps.specs.declared.rules.DecimalGrid.{DecimalGrid}
 use Rattle.decimal_maps.specs.declared.tally.Tally.{Tally}

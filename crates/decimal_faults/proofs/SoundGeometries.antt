@@ -23,7 +23,7 @@ use Rattle.reading.specs.Parts.{named, typed_faults}
 use Rattle.reading.specs.declared.geometry.GeometryType.{GeometryType}
 use Rattle.reading.specs.declared.geometry.GeometryType.TheVariants as of
 use Rattle.reading.proofs.Faultless.{under_none}
-use Rattle.decimal_maps.specs.Arrays.{ArrayMeans}
+use Rattle.json_parts.specs.Arrays.{ArrayMeans}
 use Rattle.decimal_maps.specs.Geometries.{AreLists, ArePositions, AreShapes, HasGeometries, IsGeometry, IsShape, IsSimple, kind_name, kind_of}
 use Rattle.decimal_maps.specs.Positions.{IsPosition}
 use Rattle.decimal_maps.specs.declared.rules.DecimalGrid.{DecimalGrid}

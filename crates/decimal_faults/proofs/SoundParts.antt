@@ -7,7 +7,7 @@ use Rattle.faults.specs.Path.{Turn, name, index}
 use Rattle.faults.specs.Fault.{Pair}
 use Rattle.reading.specs.Fault.{under}
 use Rattle.reading.proofs.Faultless.{first_none, second_none, under_none}
-use Rattle.decimal_maps.specs.Arrays.{ArrayMeans, ItemsMean}
+use Rattle.json_parts.specs.Arrays.{ArrayMeans, ItemsMean}
 use Rattle.decimal_faults.specs.Parts.{each_faults, list_faults, member_faults, there}
 
 pub then_iff : {P Q R : Type 0} → P ↔ Q → Q ↔ R → P ↔ R

@@ -9,7 +9,7 @@ use Rattle.numerals.specs.Numeral.{IsMeasure}
 use Rattle.reading.specs.Fault.{under}
 use Rattle.reading.specs.Positions.{position_at}
 use Rattle.reading.proofs.Positions.{position_itself}
-use Rattle.decimal_maps.specs.Arrays.{ArrayMeans, ItemsMean}
+use Rattle.json_parts.specs.Arrays.{ArrayMeans, ItemsMean}
 use Rattle.decimal_maps.specs.Positions.{AreCoordinates, AreHeights, IsCoordinate, IsHeight, IsPosition}
 use Rattle.decimal_maps.specs.Tally.{with_height}
 use Rattle.decimal_maps.specs.declared.rules.DecimalGrid.{DecimalGrid}

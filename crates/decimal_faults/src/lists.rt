@@ -1,6 +1,6 @@
 //! Arrays of parts.
 ghost use Rattle.decimal_faults.specs.Parts.{each_faults, list_faults};
-ghost use Rattle.decimal_maps.specs.Arrays.{ItemsMean, ArrayMeans};
+ghost use Rattle.json_parts.specs.Arrays.{ItemsMean, ArrayMeans};
 ghost use Rattle.fixing.specs.declared.rules.FixingRules.{FixingRules as Rules};
 ghost use Rattle.json.specs.Find.{as_array};
 ghost use Rattle.json.specs.Value.{value_view, items_view};

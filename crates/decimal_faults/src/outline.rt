@@ -1,6 +1,6 @@
 //! Lists of positions that are to be lines or rings.
 ghost use Rattle.decimal_faults.specs.Outlines.{outline_at_faults, unfixed_as};
-ghost use Rattle.decimal_maps.specs.Arrays.{ArrayMeans};
+ghost use Rattle.json_parts.specs.Arrays.{ArrayMeans};
 ghost use Rattle.decimal_maps.specs.Positions.{IsPosition};
 ghost use Rattle.reading.specs.FaultLists.Found.{pairs_of};
 ghost use Rattle.reading.specs.Outlines.{outline_faults, outline_kind};

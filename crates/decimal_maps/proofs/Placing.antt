@@ -10,11 +10,12 @@ use Rattle.grid.specs.declared.pos.Pos.{Pos}
 use Rattle.numerals.specs.Distance.{distance_of}
 use Rattle.numerals.specs.Numeral.{IsNumeral, IsSnapped}
 use Rattle.decimal_maps.specs.Positions.{AreHeights, IsCoordinate, IsPosition}
-use Rattle.decimal_maps.specs.Reads.{Reads, ReadsHeights}
+use Rattle.json_parts.specs.Reads.{Reads}
+use Rattle.decimal_maps.specs.Reads.{ReadsHeights}
 use Rattle.decimal_maps.specs.Tally.{distance_from_grid, with_height, with_position}
 use Rattle.decimal_maps.specs.declared.rules.DecimalGrid.{DecimalGrid}
 use Rattle.decimal_maps.specs.declared.tally.Tally.{Tally}
-use Rattle.decimal_maps.proofs.Looping.{PassedItems, before_items, items_closed, items_none, items_pushed, number_gives}
+use Rattle.json_parts.proofs.Looping.{PassedItems, before_items, items_closed, items_none, items_pushed, number_gives}
 
 heights_push : (grid : DecimalGrid) (js : Items) (s : List ℕ) (a b : Tally) → AreHeights grid js a b → grid.refuses_heights ≡ false → AreHeights grid (before_items js (item (number s) no_items)) a (with_height b)
 heights_push grid no_items s a b h may = (may, ap with_height h)

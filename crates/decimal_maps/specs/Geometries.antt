@@ -7,7 +7,7 @@ use Rattle.fixing.specs.declared.raw.RawGeometry.{RawGeometry}
 use Rattle.fixing.specs.declared.raw.RawGeometry.TheVariants.{One, Collection}
 use Rattle.fixing.specs.Forms.{RawShape}
 use Rattle.fixing.specs.Forms as raw
-use Rattle.decimal_maps.specs.Arrays.{ArrayMeans}
+use Rattle.json_parts.specs.Arrays.{ArrayMeans}
 use Rattle.decimal_maps.specs.Positions.{IsPosition}
 use Rattle.reading.specs.declared.geometry.GeometryType.{GeometryType}
 use Rattle.reading.specs.declared.geometry.GeometryType.TheVariants as kind

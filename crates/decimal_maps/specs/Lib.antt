@@ -1,4 +1,3 @@
-pub mod Arrays
 pub mod Tally
 pub mod Positions
 pub mod Geometries

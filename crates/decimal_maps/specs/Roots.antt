@@ -2,7 +2,7 @@
 use Rattle.std.specs.Prelude.{◌≡◌, ◌⊎◌, List, [], ◌∷◌, Some, codes}
 use Rattle.json.specs.Json.{Json, string}
 use Rattle.json.specs.Find.{get}
-use Rattle.decimal_maps.specs.Arrays.{ArrayMeans}
+use Rattle.json_parts.specs.Arrays.{ArrayMeans}
 use Rattle.decimal_maps.specs.Features.{IsBareGeometry, IsFeature}
 use Rattle.decimal_maps.specs.declared.feature.RawFeature.{RawFeature}
 use Rattle.decimal_maps.specs.declared.rules.MapRules.{MapRules}

@@ -1,22 +1,29 @@
 //! Features, whose members come in any order.
-ghost use Rattle.decimal_maps.specs.Features.{HaveAttributes, IsFeature, or_null};
-ghost use Rattle.decimal_maps.specs.Members.{IsCountedGeometry, IsKind, KnowsFeature, KnowsMember, KnowsParts};
-ghost use Rattle.decimal_maps.specs.Reads.{Gives};
-ghost use Rattle.json.specs.Find.{get_member};
-ghost use Rattle.json.specs.Json.{Json, Members, no_members, object};
-ghost use Rattle.json.specs.Value.{value_view};
 ghost use Rattle.attributes.specs.Attributes.{seen_member};
-ghost use Rattle.std.specs.Prelude.{◌≡◌, codes, IfOk};
+ghost use Rattle.decimal_maps.specs.Features.{HaveAttributes, IsFeature};
+ghost use Rattle.decimal_maps.specs.Members.{IsValue, KnowsKind, KnowsParts};
+ghost use Rattle.decimal_maps.specs.declared.kind.Kind.TheVariants as kinds;
+ghost use Rattle.json.specs.Find.{get_member};
+ghost use Rattle.json.specs.Json.{Members, object};
+ghost use Rattle.json_parts.specs.Members.{KnowsMember};
+ghost use Rattle.json_parts.specs.declared.lookup.Lookup.TheVariants.{Read};
+ghost use Rattle.std.specs.Prelude.{codes, IfOk};
 
-use crate::from_tokens::{FromTokens, Stop};
-use crate::geometry::read_geometry;
-use crate::kind::{Kind, take_kind};
-use crate::object::{Lookup, TakeMember, read_object, skip_value};
+use crate::geometry::GeometryOrNull;
+use crate::kind::Kind;
 use crate::rules::{DecimalGrid, MapRules};
 use crate::tally::Tally;
 use attributes::{AttributeRules, Attributes, Unread, read_attributes};
 use fixing::raw::{RawGeometry, RawShape};
-use json::{Error, Reader, Value};
+use json::{Reader, Value};
+use json_parts::from_tokens::FromTokens;
+use json_parts::lookup::Lookup;
+use json_parts::member::{Both, Member};
+use json_parts::object::read_object;
+use json_parts::of_type::OfType;
+use json_parts::skip::AnyJson;
+use json_parts::stop::Stop;
+use json_parts::value::AnyValue;
 use std::alloc::Global;
 
 /// A feature whose lists of positions need not be lines or rings yet (RFC 7946, section 3.2), with what was counted of its positions.
@@ -27,90 +34,35 @@ pub struct RawFeature {
     pub tally: Tally,
 }
 
-/// What was read of a feature's members other than its type.
-#[derive(Drop)]
-pub struct FeatureParts<'t> {
-    pub geometry: Lookup<(RawGeometry, Tally)>,
-    pub id: Lookup<Value<'t>>,
-    pub properties: Lookup<Value<'t>>,
-}
+/// A member of features.
+pub type FeatureMember<P> = Member<'static, OfType<Kind, P>>;
 
-/// Nothing was read yet.
-pub fn no_parts<'t>() -> FeatureParts<'t>
-    ensures { (grid : DecimalGrid) → KnowsParts grid result no_members }
-{
-    FeatureParts {
-        geometry: Lookup::Missing,
-        id: Lookup::Missing,
-        properties: Lookup::Missing,
+/// The members of a feature other than its type.
+pub type FeatureParts =
+    Both<FeatureMember<GeometryOrNull>, Both<FeatureMember<AnyValue>, FeatureMember<AnyValue>>>;
+
+/// What was read of these.
+pub type PartsFound<'t> = (Lookup<(RawGeometry, Tally)>, (Lookup<Value<'t>>, Lookup<Value<'t>>));
+
+// A member of features.
+fn member_of<P>(name: &'static str, part: P) -> FeatureMember<P> {
+    Member {
+        name,
+        part: OfType {
+            kind: Kind::Feature,
+            part,
+        },
     }
 }
 
-// Any value, as it is: its strings are borrowed from the text, and its numbers stay text.
-fn read_value<'t>(alloc: Global, reader: &mut Reader<'t>, depth: usize) -> Result<Value<'t>, Stop>
-    ensures { IfOk result (λ v. Gives depth reader.old (value_view v) reader.new) }
-{
-    match Value::read(alloc, reader, depth) {
-        Ok(value) => Ok(value),
-        Err(Error::OutOfMemory) => Err(Stop::OutOfMemory),
-        Err(_) => Err(Stop::Unread),
-    }
-}
-
-impl<'t> TakeMember<'t, DecimalGrid> for FeatureParts<'t> {
-    ghost knows = { λ on m ms. KnowsParts on m ms };
-
-    fn take(
-        &mut self,
-        alloc: Global,
-        on: &DecimalGrid,
-        name: &'t str,
-        reader: &mut Reader<'t>,
-        depth: usize,
-    ) -> Result<(), Stop> {
-        if name == "geometry" {
-            let geometry = read_geometry(alloc, on, reader, depth)?;
-            self.geometry = Lookup::Read(geometry);
-            return Ok(());
-        }
-        if name == "id" {
-            let id = read_value(alloc, reader, depth)?;
-            self.id = Lookup::Read(id);
-            return Ok(());
-        }
-        if name == "properties" {
-            let properties = read_value(alloc, reader, depth)?;
-            self.properties = Lookup::Read(properties);
-            return Ok(());
-        }
-        skip_value(reader, depth)
-    }
-}
-
-/// What was read of a feature.
-#[derive(Drop)]
-pub struct FeatureMembers<'t> {
-    pub kind: Lookup<Kind>,
-    pub parts: FeatureParts<'t>,
-}
-
-impl<'t> TakeMember<'t, DecimalGrid> for FeatureMembers<'t> {
-    ghost knows = { λ on m ms. KnowsFeature on m ms };
-
-    fn take(
-        &mut self,
-        alloc: Global,
-        on: &DecimalGrid,
-        name: &'t str,
-        reader: &mut Reader<'t>,
-        depth: usize,
-    ) -> Result<(), Stop> {
-        if name == "type" {
-            let kind = take_kind(reader)?;
-            self.kind = Lookup::Read(kind);
-            return Ok(());
-        }
-        self.parts.take(alloc, on, name, reader, depth)
+/// The members of a feature other than its type.
+pub fn feature_parts(grid: &DecimalGrid) -> FeatureParts {
+    Both {
+        first: member_of("geometry", GeometryOrNull { grid: *grid }),
+        second: Both {
+            first: member_of("id", AnyValue),
+            second: member_of("properties", AnyValue),
+        },
     }
 }
 
@@ -134,37 +86,27 @@ pub fn attributes_of(
 fn attributes_of_parts(
     alloc: Global,
     rules: &AttributeRules<'_>,
-    parts: &FeatureParts<'_>,
+    id: &Lookup<Value<'_>>,
+    properties: &Lookup<Value<'_>>,
 ) -> Result<Attributes, Stop>
-    ensures { IfOk result (λ a. (grid : DecimalGrid) (ms : Members) → KnowsParts grid parts.now ms → HaveAttributes rules.now (get_member (codes "id") ms) (get_member (codes "properties") ms) a) }
+    ensures { IfOk result (λ a. (ms : Members) → KnowsMember (codes "id") IsValue id.now ms → KnowsMember (codes "properties") IsValue properties.now ms → HaveAttributes rules.now (get_member (codes "id") ms) (get_member (codes "properties") ms) a) }
 {
-    let id = parts.id.as_member()?;
-    let properties = parts.properties.as_member()?;
+    let id = id.as_member()?;
+    let properties = properties.as_member()?;
     attributes_of(alloc, rules, id, properties)
 }
 
-// The geometry of a feature, or the null one where it has none.
-fn geometry_of_parts(parts: FeatureParts<'_>) -> Result<(RawGeometry, Tally), Stop>
-    ensures { IfOk result (λ g. (grid : DecimalGrid) (ms : Members) → KnowsParts grid parts.entry ms → IsCountedGeometry grid (or_null (get_member (codes "geometry") ms)) g) }
-{
-    let FeatureParts { geometry, .. } = parts;
-    match geometry {
-        Lookup::Read(geometry) => Ok(geometry),
-        Lookup::Missing => Ok((RawGeometry::One(RawShape::Null), Tally::new())),
-        Lookup::Skipped => Err(Stop::Unread),
-    }
-}
-
-/// The feature of members whose type is that of a feature.
+/// The feature of which this was read, where its type is that of a feature.
 pub fn feature_of(
     alloc: Global,
     rules: &MapRules<'_>,
-    parts: FeatureParts<'_>,
+    found: PartsFound<'_>,
 ) -> Result<RawFeature, Stop>
-    ensures { IfOk result (λ f. (ms : Members) → KnowsMember (codes "type") IsKind (Lookup.Read Kind.Feature) ms → KnowsParts rules.now.grid parts.entry ms → IsFeature rules.now (object ms) f) }
+    ensures { IfOk result (λ f. (ms : Members) → KnowsKind (Read kinds.Feature) ms → KnowsParts rules.now.grid found.entry ms → IsFeature rules.now (object ms) f) }
 {
-    let attributes = attributes_of_parts(alloc, &rules.attributes, &parts)?;
-    let (geometry, tally) = geometry_of_parts(parts)?;
+    let (geometry, (id, properties)) = found;
+    let attributes = attributes_of_parts(alloc, &rules.attributes, &id, &properties)?;
+    let (geometry, tally) = geometry.or((RawGeometry::One(RawShape::Null), Tally::new()))?;
     Ok(RawFeature {
         attributes,
         geometry,
@@ -186,13 +128,10 @@ impl<'t, 'r> FromTokens<'t> for MapRules<'r> {
         depth: usize,
         _count: &mut (),
     ) -> Result<RawFeature, Stop> {
-        let mut members = FeatureMembers {
-            kind: Lookup::Missing,
-            parts: no_parts(),
-        };
-        read_object(alloc, &self.grid, &mut members, reader, depth)?;
-        match members.kind {
-            Lookup::Read(Kind::Feature) => feature_of(alloc, self, members.parts),
+        let parts = feature_parts(&self.grid);
+        let (kind, found) = read_object::<AnyJson, Kind, FeatureParts>(alloc, &parts, reader, depth)?;
+        match kind {
+            Lookup::Read(Kind::Feature) => feature_of(alloc, self, found),
             _ => Err(Stop::Unread),
         }
     }

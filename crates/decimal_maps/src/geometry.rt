@@ -1,148 +1,102 @@
 //! Geometries of any type, whose members come in any order.
 ghost use Rattle.decimal_maps.specs.Geometries.{IsGeometry};
-ghost use Rattle.decimal_maps.specs.Members.{AreSimple, IsCountedGeometry, KnowsGeometry, LookupMeans};
-ghost use Rattle.decimal_maps.specs.Reads.{Gives, GivesMembers};
+ghost use Rattle.decimal_maps.specs.Members.{IsCountedGeometry, KnowsGeometry, KnowsKind};
+ghost use Rattle.decimal_maps.specs.declared.rules.DecimalGrid.{DecimalGrid as the_grid};
 ghost use Rattle.decimal_maps.specs.Tally.{nothing_counted};
-ghost use Rattle.json.specs.Json.{Json, Members, no_members, object};
-ghost use Rattle.std.specs.Prelude.{◌≡◌, IfOk};
+ghost use Rattle.json.specs.Json.{Members, object};
+ghost use Rattle.std.specs.Prelude.{IfOk};
 
-use crate::from_tokens::Stop;
+use crate::coordinates::Coordinates;
 use crate::kind::Kind;
-use crate::list::read_list;
-use crate::object::{Lookup, TakeMember, read_members, skip_value};
 use crate::rules::DecimalGrid;
-use crate::simple::{GeometryStart, SimpleGeometry, SimpleMembers, no_simple_members, simple_of};
+use crate::simple::{SimpleGeometry, coordinates_member, simple_of};
 use crate::tally::Tally;
+use fixing::Items;
 use fixing::raw::{RawGeometry, RawShape};
-use json::{Reader, Token};
+use grid::Pos;
+use json::Reader;
+use json_parts::counted::Counted;
+use json_parts::from_tokens::FromTokens;
+use json_parts::list::ListOf;
+use json_parts::lookup::Lookup;
+use json_parts::member::{Both, Member};
+use json_parts::nested::Nested;
+use json_parts::object::read_object_or_null;
+use json_parts::of_type::OfType;
+use json_parts::skip::AnyJson;
+use json_parts::stop::Stop;
 use std::alloc::Global;
 
-/// What was read of a geometry: what it has if it is no collection, and its geometries if it is one, with what is
-/// counted behind them.
-#[derive(Drop)]
-pub struct GeometryMembers {
-    pub simple: SimpleMembers,
-    pub geometries: Lookup<(Vec<RawShape>, Tally)>,
-}
+/// The member `geometries`, none of which is a collection, with what is counted behind them.
+pub type GeometriesMember = Member<'static, OfType<Kind, Counted<ListOf<SimpleGeometry>, Tally>>>;
 
-/// Nothing was read yet.
-pub fn no_geometry_members() -> GeometryMembers
-    ensures { (on : GeometryStart) → KnowsGeometry on result no_members }
-{
-    GeometryMembers {
-        simple: no_simple_members(),
-        geometries: Lookup::Missing,
+/// The members of a geometry of any type other than the type.
+pub type GeometryMembers = Both<Member<'static, Coordinates>, GeometriesMember>;
+
+/// What was read of these.
+pub type GeometryFound = (Lookup<(Nested<Pos>, Tally)>, Lookup<(Items<RawShape>, Tally)>);
+
+/// The members of a geometry of any type other than the type.
+pub fn geometry_members(grid: &DecimalGrid) -> GeometryMembers {
+    let counted = Tally::new();
+    Both {
+        first: coordinates_member(grid, counted),
+        second: Member {
+            name: "geometries",
+            part: OfType {
+                kind: Kind::GeometryCollection,
+                part: Counted {
+                    part: ListOf {
+                        of: SimpleGeometry { grid: *grid },
+                    },
+                    before: counted,
+                },
+            },
+        },
     }
 }
 
-// The geometries of a collection, none of which is a collection.
-fn read_geometries<'t>(
+/// The geometry of which this was read, with what is counted of it.
+pub fn geometry_of(
     alloc: Global,
-    on: &GeometryStart,
-    reader: &mut Reader<'t>,
-    depth: usize,
-) -> Result<(Vec<RawShape>, Tally), Stop>
-    ensures { IfOk result (λ n. (j : Json) × Gives depth reader.old j reader.new × AreSimple on.now j n) }
+    kind: Lookup<Kind>,
+    found: GeometryFound,
+) -> Result<(RawGeometry, Tally), Stop>
+    ensures { IfOk result (λ g. (grid : the_grid) (ms : Members) → KnowsKind kind ms → KnowsGeometry grid found ms → IsGeometry grid (object ms) g.0 nothing_counted g.1) }
 {
-    let mut tally = on.counted;
-    let simple = SimpleGeometry { grid: on.grid };
-    let shapes = read_list(alloc, &simple, reader, depth, &mut tally)?;
-    Ok((shapes, tally))
-}
-
-// The geometries of a collection, or nothing where the type is that of no collection.
-fn read_collected<'t>(
-    alloc: Global,
-    on: &GeometryStart,
-    kind: &Lookup<Kind>,
-    reader: &mut Reader<'t>,
-    depth: usize,
-) -> Result<Lookup<(Vec<RawShape>, Tally)>, Stop>
-    ensures { IfOk result (λ n. (j : Json) × Gives depth reader.old j reader.new × LookupMeans (AreSimple on.now) j n) }
-{
-    match kind {
-        Lookup::Missing => Ok(Lookup::Read(read_geometries(alloc, on, reader, depth)?)),
-        Lookup::Read(Kind::GeometryCollection) => {
-            Ok(Lookup::Read(read_geometries(alloc, on, reader, depth)?))
-        }
-        _ => {
-            skip_value(reader, depth)?;
-            Ok(Lookup::Skipped)
-        }
-    }
-}
-
-impl<'t> TakeMember<'t, GeometryStart> for GeometryMembers {
-    ghost knows = { λ on m ms. KnowsGeometry on m ms };
-
-    fn take(
-        &mut self,
-        alloc: Global,
-        on: &GeometryStart,
-        name: &'t str,
-        reader: &mut Reader<'t>,
-        depth: usize,
-    ) -> Result<(), Stop> {
-        if name == "geometries" {
-            let geometries = read_collected(alloc, on, &self.simple.kind, reader, depth)?;
-            self.geometries = geometries;
-            return Ok(());
-        }
-        self.simple.take(alloc, on, name, reader, depth)
-    }
-}
-
-/// The geometry of such members, with what is counted behind it.
-pub fn geometry_of(alloc: Global, members: GeometryMembers) -> Result<(RawGeometry, Tally), Stop>
-    ensures { IfOk result (λ g. (on : GeometryStart) (ms : Members) → KnowsGeometry on members ms → IsGeometry on.grid (object ms) g.0 on.counted g.1) }
-{
-    let GeometryMembers { simple, geometries } = members;
-    if let Lookup::Read(Kind::GeometryCollection) = simple.kind {
+    let (coordinates, geometries) = found;
+    if let Lookup::Read(Kind::GeometryCollection) = kind {
         let (shapes, tally) = geometries.into_required()?;
-        return Ok((RawGeometry::Collection(shapes), tally));
+        return Ok((RawGeometry::Collection(shapes.into_vec()), tally));
     }
-    let (shape, tally) = simple_of(alloc, simple)?;
+    let (shape, tally) = simple_of(alloc, kind, coordinates)?;
     Ok((RawGeometry::One(shape), tally))
 }
 
-// The geometry of an object that has begun.
-fn read_started<'t>(
-    alloc: Global,
-    grid: &DecimalGrid,
-    reader: &mut Reader<'t>,
-    depth: usize,
-) -> Result<(RawGeometry, Tally), Stop>
-    ensures { IfOk result (λ g. (ms : Members) × GivesMembers depth reader.old ms reader.new × IsGeometry grid.now (object ms) g.0 nothing_counted g.1) }
-{
-    let start = GeometryStart {
-        grid: *grid,
-        counted: Tally::new(),
-    };
-    let mut members = no_geometry_members();
-    read_members(alloc, &start, &mut members, reader, depth)?;
-    geometry_of(alloc, members)
+/// A geometry, or null, with what is counted of it.
+#[derive(Clone, Copy)]
+pub struct GeometryOrNull {
+    pub grid: DecimalGrid,
 }
 
-/// The geometry or the null that comes next.
-pub fn read_geometry<'t>(
-    alloc: Global,
-    grid: &DecimalGrid,
-    reader: &mut Reader<'t>,
-    depth: usize,
-) -> Result<(RawGeometry, Tally), Stop>
-    ensures { IfOk result (λ g. (j : Json) × Gives depth reader.old j reader.new × IsCountedGeometry grid.now j g) }
-{
-    let Some(token) = reader.next() else {
-        return Err(Stop::Unread);
-    };
-    match token {
-        Token::Null => Ok((RawGeometry::One(RawShape::Null), Tally::new())),
-        Token::BeginObject => {
-            if depth == 0 {
-                return Err(Stop::Unread);
-            }
-            read_started(alloc, grid, reader, depth - 1)
+impl<'t> FromTokens<'t> for GeometryOrNull {
+    type Made = (RawGeometry, Tally);
+
+    type Count = ();
+
+    ghost means = { λ p j g a b. IsCountedGeometry p.grid j g };
+
+    fn read(
+        &self,
+        alloc: Global,
+        reader: &mut Reader<'t>,
+        depth: usize,
+        _count: &mut (),
+    ) -> Result<(RawGeometry, Tally), Stop> {
+        let members = geometry_members(&self.grid);
+        match read_object_or_null::<AnyJson, Kind, GeometryMembers>(alloc, &members, reader, depth)? {
+            Some((kind, found)) => geometry_of(alloc, kind, found),
+            None => Ok((RawGeometry::One(RawShape::Null), Tally::new())),
         }
-        _ => Err(Stop::Unread),
     }
 }

@@ -1,15 +1,12 @@
 //! The types of GeoJSON's objects (RFC 7946, section 1.4).
 ghost use Rattle.decimal_maps.specs.Members.{type_name};
-ghost use Rattle.decimal_maps.specs.Reads.{Gives};
-ghost use Rattle.json.specs.Json.{string};
-ghost use Rattle.std.specs.Prelude.{◌≡◌, ℕ, IfNone, IfOk, IfSome};
+ghost use Rattle.std.specs.Prelude.{◌≡◌};
 
-use crate::from_tokens::Stop;
-use json::{Reader, Token};
+use json_parts::type_name::TypeName;
 use reading::geometry::GeometryType;
 
 /// A type.
-#[derive(Clone, Copy)]
+#[derive(Clone, Copy, PartialEq, Eq)]
 pub enum Kind {
     FeatureCollection,
     Feature,
@@ -18,13 +15,11 @@ pub enum Kind {
     Simple(GeometryType),
 }
 
-impl Kind {
-    /// The type of that name.
+impl TypeName for Kind {
+    ghost names = { λ k s. s ≡ type_name k };
+
     #[tactic(auto, using(crate::proofs::Naming::unnamed))]
-    pub fn from_name(text: &str) -> Option<Kind>
-        ensures named { IfSome result (λ k. text.now ≡ type_name k) }
-        ensures unknown { IfNone result ((k : Kind) → ¬ (text.now ≡ type_name k)) }
-    {
+    fn from_name(text: &str) -> Option<Kind> {
         if text == "FeatureCollection" {
             Some(Kind::FeatureCollection)
         } else if text == "Feature" {
@@ -37,18 +32,5 @@ impl Kind {
                 Err(_) => None,
             }
         }
-    }
-}
-
-/// The type that comes next.
-pub fn take_kind<'t>(reader: &mut Reader<'t>) -> Result<Kind, Stop>
-    ensures { IfOk result (λ k. (depth : ℕ) → Gives depth reader.old (string (type_name k)) reader.new) }
-{
-    let Some(Token::String(text)) = reader.next() else {
-        return Err(Stop::Unread);
-    };
-    match Kind::from_name(text) {
-        Some(kind) => Ok(kind),
-        None => Err(Stop::Unread),
     }
 }

@@ -9,21 +9,16 @@
 
 pub mod coordinates;
 pub mod feature;
-pub mod from_tokens;
 pub mod geometry;
 pub mod kind;
-pub mod list;
-pub mod object;
-pub mod opened;
 pub mod position;
 pub mod root;
 pub mod rules;
 pub mod simple;
 pub mod tally;
-pub mod token;
 
 pub use feature::RawFeature;
-pub use from_tokens::Stop;
+pub use json_parts::Stop;
 pub use root::read_map;
 pub use rules::{DecimalGrid, MapRules};
 pub use tally::Tally;

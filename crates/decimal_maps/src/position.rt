@@ -10,13 +10,14 @@ ghost use Rattle.json.specs.Token as spec;
 ghost use Rattle.numerals.specs.Numeral.{IsNumeral, IsSnapped};
 ghost use Rattle.std.specs.Prelude.{◌≡◌, ◌↔◌, ◌∷◌, ℕ, ℤ, Some, IfErr, IfOk, OnOk};
 
-use crate::from_tokens::{FromTokens, Stop};
-use crate::opened::FromOpened;
 use crate::rules::DecimalGrid;
 use crate::tally::Tally;
-use crate::token::{take_begin_array, take_number};
 use grid::Pos;
 use json::Reader;
+use json_parts::from_tokens::FromTokens;
+use json_parts::opened::FromOpened;
+use json_parts::stop::Stop;
+use json_parts::token::{take_begin_array, take_number};
 use numerals::{snap, snap_measured};
 use std::alloc::Global;
 

@@ -1,142 +1,88 @@
 //! Roots: a collection of features, a feature or a geometry, whose members come in any order.
-ghost use Rattle.decimal_maps.specs.Features.{IsBareGeometry};
-ghost use Rattle.decimal_maps.specs.Members.{KnowsGeometry, KnowsParts, KnowsRoot, LookupMeans, root_start};
-ghost use Rattle.decimal_maps.specs.Reads.{Gives, then_member};
-ghost use Rattle.decimal_maps.specs.Roots.{AreFeatures, IsMap};
+ghost use Rattle.decimal_maps.specs.Features.{IsBareGeometry, IsFeature};
+ghost use Rattle.decimal_maps.specs.Members.{KnowsGeometry, KnowsKind, KnowsParts, KnowsRoot};
+ghost use Rattle.decimal_maps.specs.Roots.{IsMap};
+ghost use Rattle.decimal_maps.specs.declared.kind.Kind.TheVariants as kinds;
 ghost use Rattle.json.specs.Json.{Json, Members, document, object};
-ghost use Rattle.std.specs.Prelude.{◌≡◌, ◌||◌, codes, IfOk, OnOk, Some};
-ghost use Rattle.std.specs.Str.{bytes_eq};
+ghost use Rattle.json_parts.specs.declared.lookup.Lookup.TheVariants.{Read};
+ghost use Rattle.std.specs.Prelude.{◌≡◌, Some, IfOk};
 
-use crate::feature::{FeatureParts, RawFeature, attributes_of, feature_of, no_parts};
-use crate::from_tokens::Stop;
-use crate::geometry::{GeometryMembers, geometry_of, no_geometry_members};
+use crate::feature::{FeatureParts, PartsFound, RawFeature, attributes_of, feature_of, feature_parts};
+use crate::geometry::{GeometryFound, GeometryMembers, geometry_members, geometry_of};
 use crate::kind::Kind;
-use crate::list::{read_list, single};
-use crate::object::{Lookup, TakeMember, read_object, skip_value};
-use crate::rules::{DecimalGrid, MapRules};
-use crate::simple::GeometryStart;
-use crate::tally::Tally;
+use crate::rules::MapRules;
 use attributes::AttributeRules;
-use json::{Reader, Scratch};
+use fixing::Items;
+use json::Scratch;
+use json_parts::list::{ListOf, single};
+use json_parts::lookup::Lookup;
+use json_parts::member::{Both, Member};
+use json_parts::of_type::OfType;
+use json_parts::skip::AnyJson;
+use json_parts::stop::Stop;
+use json_parts::text::{TextRead, read_root};
 use std::alloc::Global;
 
 // How deep values may nest.
 const MAX_DEPTH: usize = 128;
 
-/// What was read of a root.
-#[derive(Drop)]
-pub struct RootMembers<'t> {
-    pub geometry: GeometryMembers,
-    pub features: Lookup<Vec<RawFeature>>,
-    pub parts: FeatureParts<'t>,
+/// The member `features`.
+pub type FeaturesMember<'r> = Member<'static, OfType<Kind, ListOf<MapRules<'r>>>>;
+
+/// The members that any root has.
+pub type RootMembers<'r> = Both<GeometryMembers, Both<FeaturesMember<'r>, FeatureParts>>;
+
+/// What was read of these.
+pub type RootFound<'t> = (GeometryFound, (Lookup<Items<RawFeature>>, PartsFound<'t>));
+
+// The members that any root has.
+fn root_members<'r>(rules: &MapRules<'r>) -> RootMembers<'r> {
+    Both {
+        first: geometry_members(&rules.grid),
+        second: Both {
+            first: Member {
+                name: "features",
+                part: OfType {
+                    kind: Kind::FeatureCollection,
+                    part: ListOf { of: *rules },
+                },
+            },
+            second: feature_parts(&rules.grid),
+        },
+    }
 }
 
-// The features of a collection, or nothing where the type is that of no collection.
-fn read_features<'t>(
+// The features of a collection at the root.
+fn features_of_collection(found: RootFound<'_>) -> Result<Vec<RawFeature>, Stop>
+    ensures { IfOk result (λ fs. found.entry.1.0 ≡ Read fs.items) }
+{
+    let (_geometry, (features, _parts)) = found;
+    Ok(features.into_required()?.into_vec())
+}
+
+// The feature at the root.
+fn feature_at_root(
     alloc: Global,
     rules: &MapRules<'_>,
-    kind: &Lookup<Kind>,
-    reader: &mut Reader<'t>,
-    depth: usize,
-) -> Result<Lookup<Vec<RawFeature>>, Stop>
-    ensures { IfOk result (λ n. (j : Json) × Gives depth reader.old j reader.new × LookupMeans (λ k fs. AreFeatures rules.now k fs.items) j n) }
+    found: RootFound<'_>,
+) -> Result<RawFeature, Stop>
+    ensures { IfOk result (λ f. (ms : Members) → KnowsKind (Read kinds.Feature) ms → KnowsParts rules.now.grid found.entry.1.1 ms → IsFeature rules.now (object ms) f) }
 {
-    match kind {
-        Lookup::Missing => Ok(Lookup::Read(read_list(alloc, rules, reader, depth, &mut ())?)),
-        Lookup::Read(Kind::FeatureCollection) => {
-            Ok(Lookup::Read(read_list(alloc, rules, reader, depth, &mut ())?))
-        }
-        _ => {
-            skip_value(reader, depth)?;
-            Ok(Lookup::Skipped)
-        }
-    }
-}
-
-// Whether a member of that name is a geometry's.
-fn is_geometry_member(name: &str) -> bool
-    ensures { result ≡ (bytes_eq name.now (codes "type") || bytes_eq name.now (codes "coordinates") || bytes_eq name.now (codes "geometries")) }
-{
-    name == "type" || name == "coordinates" || name == "geometries"
-}
-
-// Parts of a feature, none of which was read.
-fn skipped_parts<'t>() -> FeatureParts<'t>
-    ensures { (grid : DecimalGrid) (ms : Members) → KnowsParts grid result ms }
-{
-    FeatureParts {
-        geometry: Lookup::Skipped,
-        id: Lookup::Skipped,
-        properties: Lookup::Skipped,
-    }
-}
-
-// Reads a member of a feature, or skips it where the type is not that of a feature.
-fn take_part<'t>(
-    alloc: Global,
-    grid: &DecimalGrid,
-    kind: &Lookup<Kind>,
-    parts: &mut FeatureParts<'t>,
-    name: &'t str,
-    reader: &mut Reader<'t>,
-    depth: usize,
-) -> Result<(), Stop>
-    ensures { OnOk result ((j : Json) × Gives depth reader.old j reader.new × ((ms : Members) → KnowsParts grid.now parts.old ms → KnowsParts grid.now parts.new (then_member ms name.now j))) }
-{
-    match kind {
-        Lookup::Missing => parts.take(alloc, grid, name, reader, depth),
-        Lookup::Read(Kind::Feature) => parts.take(alloc, grid, name, reader, depth),
-        _ => {
-            *parts = skipped_parts();
-            skip_value(reader, depth)
-        }
-    }
-}
-
-impl<'t, 'r> TakeMember<'t, MapRules<'r>> for RootMembers<'t> {
-    ghost knows = { λ on m ms. KnowsRoot on m ms };
-
-    fn take(
-        &mut self,
-        alloc: Global,
-        on: &MapRules<'r>,
-        name: &'t str,
-        reader: &mut Reader<'t>,
-        depth: usize,
-    ) -> Result<(), Stop> {
-        if name == "features" {
-            let features = read_features(alloc, on, &self.geometry.simple.kind, reader, depth)?;
-            self.features = features;
-            return Ok(());
-        }
-        if is_geometry_member(name) {
-            let start = start_of(on);
-            return self.geometry.take(alloc, &start, name, reader, depth);
-        }
-        let kind = &self.geometry.simple.kind;
-        take_part(alloc, &on.grid, kind, &mut self.parts, name, reader, depth)
-    }
-}
-
-// What the geometry of a root is read by.
-fn start_of(rules: &MapRules<'_>) -> GeometryStart
-    ensures { result ≡ root_start rules.now }
-{
-    GeometryStart {
-        grid: rules.grid,
-        counted: Tally::new(),
-    }
+    let (_geometry, (_features, parts)) = found;
+    feature_of(alloc, rules, parts)
 }
 
 // A geometry that is no feature's, as a feature.
 fn bare_feature(
     alloc: Global,
     rules: &MapRules<'_>,
-    members: GeometryMembers,
+    kind: Lookup<Kind>,
+    found: RootFound<'_>,
 ) -> Result<RawFeature, Stop>
-    ensures { IfOk result (λ f. (ms : Members) → KnowsGeometry (root_start rules.now) members ms → IsBareGeometry rules.now (object ms) f) }
+    ensures { IfOk result (λ f. (ms : Members) → KnowsKind kind ms → KnowsGeometry rules.now.grid found.entry.0 ms → IsBareGeometry rules.now (object ms) f) }
 {
-    let (geometry, tally) = geometry_of(alloc, members)?;
+    let (members, _rest) = found;
+    let (geometry, tally) = geometry_of(alloc, kind, members)?;
     let unnamed = AttributeRules {
         id: None,
         scales: rules.attributes.scales,
@@ -150,41 +96,20 @@ fn bare_feature(
     })
 }
 
-// The features of a root's members.
-fn map_of<'t>(
+// The features of a root of which this was read.
+fn map_of(
     alloc: Global,
     rules: &MapRules<'_>,
-    members: RootMembers<'t>,
+    kind: Lookup<Kind>,
+    found: RootFound<'_>,
 ) -> Result<Vec<RawFeature>, Stop>
-    ensures { IfOk result (λ fs. (ms : Members) → KnowsRoot rules.now members.entry ms → IsMap rules.now (object ms) fs.items) }
+    ensures { IfOk result (λ fs. (ms : Members) → KnowsKind kind ms → KnowsRoot rules.now found.entry ms → IsMap rules.now (object ms) fs.items) }
 {
-    let RootMembers {
-        geometry,
-        features,
-        parts,
-    } = members;
-    match geometry.simple.kind {
-        Lookup::Read(Kind::FeatureCollection) => features.into_required(),
-        Lookup::Read(Kind::Feature) => single(alloc, feature_of(alloc, rules, parts)?),
-        _ => single(alloc, bare_feature(alloc, rules, geometry)?),
+    match kind {
+        Lookup::Read(Kind::FeatureCollection) => features_of_collection(found),
+        Lookup::Read(Kind::Feature) => single(alloc, feature_at_root(alloc, rules, found)?),
+        _ => single(alloc, bare_feature(alloc, rules, kind, found)?),
     }
-}
-
-// The root that comes next.
-fn read_root<'t>(
-    alloc: Global,
-    rules: &MapRules<'_>,
-    reader: &mut Reader<'t>,
-) -> Result<Vec<RawFeature>, Stop>
-    ensures { IfOk result (λ fs. (j : Json) × Gives MAX_DEPTH reader.old j reader.new × IsMap rules.now j fs.items) }
-{
-    let mut members = RootMembers {
-        geometry: no_geometry_members(),
-        features: Lookup::Missing,
-        parts: no_parts(),
-    };
-    read_object(alloc, rules, &mut members, reader, MAX_DEPTH)?;
-    map_of(alloc, rules, members)
 }
 
 /// The features of a GeoJSON text (RFC 7946, section 3), each coordinate rounded to the nearest whole number of steps:
@@ -197,12 +122,9 @@ pub fn read_map(alloc: Global, rules: &MapRules<'_>, text: &str) -> Result<Vec<R
     ensures { IfOk result (λ fs. (j : Json) × (document text.now ≡ Some j) × IsMap rules.now j fs.items) }
 {
     let mut scratch = Scratch::new(alloc);
-    let Ok(mut reader) = Reader::new(text, &mut scratch) else {
-        return Err(Stop::OutOfMemory);
-    };
-    let features = read_root(alloc, rules, &mut reader)?;
-    if reader.next().is_some() {
-        return Err(Stop::Unread);
+    let members = root_members(rules);
+    match read_root::<AnyJson, Kind, RootMembers<'_>>(alloc, &members, text, &mut scratch, MAX_DEPTH)? {
+        TextRead::Read((kind, found)) => map_of(alloc, rules, kind, found),
+        _ => Err(Stop::Unread),
     }
-    Ok(features)
 }

@@ -16,7 +16,7 @@ use Rattle.grid.specs.declared.pos.Pos.{Pos}
 use Rattle.reading.specs.Fault.{under, unless_faulty}
 use Rattle.reading.specs.Outlines.{outline_faults}
 use Rattle.reading.specs.Parts.{typed_faults}
-use Rattle.decimal_maps.specs.Arrays.{ArrayMeans, ItemsMean}
+use Rattle.json_parts.specs.Arrays.{ArrayMeans, ItemsMean}
 use Rattle.decimal_maps.specs.Geometries.{kind_of}
 use Rattle.decimal_maps.specs.declared.tally.Tally.{Tally}
 use Rattle.decimal_faults.specs.Geometries.{is_nothing}

@@ -10,7 +10,7 @@ use Rattle.reading.specs.Parts.{typed_faults}
 use Rattle.decimal_faults.specs.Parts.{list_faults, member_faults, object_faults}
 use Rattle.decimal_faults.specs.declared.geometry.GeometryForm.{GeometryForm}
 use Rattle.decimal_faults.specs.declared.geometry.GeometryForm.TheVariants.{Simple, Collection}
-use Rattle.decimal_maps.specs.Arrays.{ArrayMeans}
+use Rattle.json_parts.specs.Arrays.{ArrayMeans}
 use Rattle.decimal_maps.specs.Features.{HaveAttributes}
 use Rattle.decimal_maps.specs.Tally.{nothing_counted}
 use Rattle.decimal_maps.specs.declared.feature.RawFeature.{RawFeature}

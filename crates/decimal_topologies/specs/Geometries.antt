@@ -23,7 +23,7 @@ use Rattle.decimal_faults.specs.declared.geometry.GeometryForm.{GeometryForm}
 use Rattle.decimal_faults.specs.declared.geometry.GeometryForm.TheVariants.{Simple, Collection}
 use Rattle.decimal_faults.specs.declared.outline.Outline.{Outline}
 use Rattle.decimal_faults.specs.declared.outline.Outline.TheVariants.{Line, Ring}
-use Rattle.decimal_maps.specs.Arrays.{ArrayMeans}
+use Rattle.json_parts.specs.Arrays.{ArrayMeans}
 use Rattle.decimal_maps.specs.Geometries.{kind_of}
 use Rattle.decimal_maps.specs.declared.tally.Tally.{Tally}
 use Rattle.decimal_arcs.specs.Placed.{IsPlaced}

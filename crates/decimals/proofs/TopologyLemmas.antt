@@ -4,6 +4,5 @@ pub mod Numbers
 pub mod Parts
 pub mod Powers
 pub mod Properties
-pub mod SinkLemmas
 pub mod Transforms
 pub mod Whole

@@ -9,16 +9,16 @@ use Rattle.compare.specs.Compared.{geometries_from}
 use Rattle.shapes.specs.Order.{id_cmp}
 use Rattle.shapes.specs.contracts.shape.IdOrd.TheImpl.Laws.{matches_eq-law as id_ties}
 use Rattle.shapes.specs.contracts.shape.IdPartialEq.TheImpl as id_eq
+use Rattle.shapes.specs.Writing.Members.{id_value_text}
 use Rattle.shapes.specs.declared.shape.Id.{Id}
-use Rattle.sinks.specs.Texts.{joined}
+use Rattle.sinks.specs.Texts.{behind_texts, each_text, joined}
 use Rattle.topo.proofs.FeatureOrder.{id_derived_is}
 use Rattle.topo.specs.Parts.{LayerParts, TopologyParts}
 use Rattle.topo.specs.declared.geom.Geom.{Geom}
 use Rattle.difference_text.specs.DifferenceJson.{change_object, difference_json, geometry_member, has_objects, ids_at, is_missing, key_member, layer_objects, member_object, names_text, objects_text, single_object}
-use Rattle.difference_text.specs.DifferenceLines.{change_line, counts_line, difference_lines, geometry_part, ids_part, layer_head, layer_lines, member_line, parts_text, single_line}
+use Rattle.difference_text.specs.DifferenceLines.{change_line, counts_line, difference_lines, geometry_part, layer_head, layer_lines, member_line, parts_text, single_line}
 use Rattle.difference_text.specs.DifferenceParts.{LayerReport, has_other_id, has_some, layer_in, layer_name, layer_report}
 use Rattle.difference_text.specs.DifferenceText.{counts_of}
-use Rattle.text_parts.specs.TextParts.{behind_texts, each_text}
 use Rattle.difference_text.specs.declared.difference.ChangeCounts.{ChangeCounts}
 use Rattle.difference_text.specs.declared.difference.Difference.{Difference}
 use Rattle.difference_text.specs.declared.difference.FeatureChange.{FeatureChange}
@@ -55,10 +55,10 @@ view_means keyed old new l {ls} {ks} {a} {b} {name} {gs} {hs} olds news first se
 -- ---- lines
 
 pub parts_is : (c : FeatureChange) (old new : Geom) {d k : Bool} {ms : List MemberChange} → d ≡ has_other_id old.id new.id → ms ≡ c.members.items → k ≡ (d || nat_lt 0 (length ms))
-    → ids_part old.id new.id ++ (behind_texts (codes "; ") d member_line ms ++ geometry_part k c.geometry old.body new.body) ≡ parts_text c old new
+    → cond d (codes "id: " ++ (id_value_text old.id ++ (codes " -> " ++ id_value_text new.id))) [] ++ (behind_texts (codes "; ") d member_line ms ++ geometry_part k c.geometry old.body new.body) ≡ parts_text c old new
 parts_is c old new {d} {k} {ms} differ members some =
     let any : k ≡ has_some (has_other_id old.id new.id) c.members.items = some ∙ (λ i. has_some (differ i) (members i)) in
-    λ i. ids_part old.id new.id ++ (behind_texts (codes "; ") (differ i) member_line (members i) ++ geometry_part (any i) c.geometry old.body new.body)
+    λ i. cond (differ i) (codes "id: " ++ (id_value_text old.id ++ (codes " -> " ++ id_value_text new.id))) [] ++ (behind_texts (codes "; ") (differ i) member_line (members i) ++ geometry_part (any i) c.geometry old.body new.body)
 
 pub layer_lines_is : (v : LayerReport) {rs ns : List Single} {cs : List FeatureChange} → rs ≡ v.changes.removed.items → ns ≡ v.changes.added.items → cs ≡ v.changes.changed.items
     → layer_head v.changes.layers.old v.changes.layers.new v.name

@@ -2,21 +2,21 @@
 use Rattle.std.specs.Prelude.{◌≡◌, ℕ, Bool, true, false, List, [], ◌∷◌, ◌++◌, ◌||◌, None, Option, Some, String, codes, cond, decimal, is_none, is_some, slice_get, string_bytes}
 use Rattle.std.specs.Str.{bytes_eq}
 use Rattle.std.specs.declared.alloc.Global.{Global}
-use Rattle.query.specs.AnswerTexts.{id_text_of, id_value_text}
+use Rattle.query.specs.AnswerTexts.{id_text_of}
 use Rattle.shapes.specs.Maps.{Layers}
+use Rattle.shapes.specs.Forms.{kind_name}
 use Rattle.shapes.specs.Parts.{properties_text, spelled_text}
 use Rattle.shapes.specs.Spelling.{spelling_of}
+use Rattle.shapes.specs.Writing.Members.{id_value_text}
 use Rattle.shapes.specs.declared.shape.Id.{Id}
-use Rattle.sinks.specs.Texts.{joined}
+use Rattle.sinks.specs.Texts.{behind_texts, joined}
 use Rattle.topo.specs.OfMap.{IsOf}
 use Rattle.topo.specs.Parts.{TopologyParts}
 use Rattle.topo.specs.Bodies.{Body}
 use Rattle.topo.specs.declared.geom.Geom.{Geom}
-use Rattle.shapes.specs.Forms.{kind_name}
 use Rattle.difference_text.specs.DifferenceParts.{LayerReport, direction_words, has_other_id, has_some, text_or, layer_report}
 use Rattle.difference_text.specs.DifferenceLines.{difference_lines}
 use Rattle.difference_text.specs.DifferenceText.{AreAllChanges, counts_of}
-use Rattle.text_parts.specs.TextParts.{behind_texts}
 use Rattle.difference_text.specs.declared.difference.Difference.{Difference}
 use Rattle.difference_text.specs.declared.difference.FeatureChange.{FeatureChange}
 use Rattle.difference_text.specs.declared.difference.LayerChanges.{LayerChanges}

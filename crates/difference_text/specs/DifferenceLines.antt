@@ -3,18 +3,17 @@ use Rattle.std.specs.Prelude.{ℕ, Bool, List, [], ◌∷◌, ◌++◌, None, Op
 use Rattle.std.specs.Str.{bytes_eq}
 use Rattle.std.specs.Prelude.{String}
 use Rattle.std.specs.declared.alloc.Global.{Global}
-use Rattle.query.specs.AnswerTexts.{id_value_text}
+use Rattle.shapes.specs.Forms.{kind_name}
 use Rattle.shapes.specs.Parts.{properties_text, spelled_text}
 use Rattle.shapes.specs.Spelling.{spelling_of}
+use Rattle.shapes.specs.Writing.Members.{id_value_text}
 use Rattle.shapes.specs.declared.shape.Id.{Id}
-use Rattle.sinks.specs.Texts.{option_text}
+use Rattle.sinks.specs.Texts.{behind_texts, counted_text, each_text, option_text}
 use Rattle.topo.specs.Parts.{TopologyParts}
 use Rattle.topo.specs.Bodies.{Body}
 use Rattle.topo.specs.declared.geom.Geom.{Geom}
-use Rattle.shapes.specs.Forms.{kind_name}
 use Rattle.difference_text.specs.DifferenceParts.{LayerReport, direction_words, has_other_id, has_some, text_or, layer_report}
 use Rattle.difference_text.specs.DifferenceText.{counts_of}
-use Rattle.text_parts.specs.TextParts.{behind_texts, each_text}
 use Rattle.difference_text.specs.declared.difference.ChangeCounts.{ChangeCounts}
 use Rattle.difference_text.specs.declared.difference.Difference.{Difference}
 use Rattle.difference_text.specs.declared.difference.FeatureChange.{FeatureChange}
@@ -37,7 +36,7 @@ feature_name v key id = v.name ++ (codes " " ++ (cond v.keyed (text_or (codes "n
 abbrev pub single_text : List ℕ → LayerReport → Single → Geom → List ℕ
 single_text sign v s g = sign ++ (feature_name v s.key g.id ++ (properties_text g.props ++ codes "\n"))
 
--- the same by its number
+-- that line of a feature by its number
 abbrev pub single_line : List ℕ → LayerReport → List Geom → Single → List ℕ
 single_line sign v gs s = option_text (single_text sign v s) (slice_get gs s.number)
 
@@ -53,15 +52,11 @@ member_line m = spelling_of (spelled_text m.name) ++ (codes ": " ++ (text_or (co
 abbrev pub kinds_part : Body → Body → List ℕ
 kinds_part old new = cond (bytes_eq (kind_name old) (kind_name new)) [] (kind_name old ++ (codes " -> " ++ (kind_name new ++ codes ", ")))
 
--- how many vertices are gone
-abbrev pub gone_text : ℕ → List ℕ
-gone_text n = decimal n ++ cond (nat_eq n 1) (codes " vertex") (codes " vertices")
-
 -- what differs between two geometries
 abbrev pub geometry_line : GeometryChange → Body → Body → List ℕ
 geometry_line Direction old new = direction_words old
 geometry_line Order old new = codes "vertex order only"
-geometry_line (Vertices gone added) old new = kinds_part old new ++ (gone_text gone ++ ((codes " gone, " ++ decimal added) ++ codes " new"))
+geometry_line (Vertices gone added) old new = kinds_part old new ++ (counted_text gone (codes " vertex") (codes " vertices") ++ ((codes " gone, " ++ decimal added) ++ codes " new"))
 
 -- the same, where anything differs, behind other parts
 abbrev pub geometry_part : Bool → Option GeometryChange → Body → Body → List ℕ

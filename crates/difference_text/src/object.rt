@@ -1,18 +1,20 @@
 //! What differs, as one JSON object, compact and with its members in byte order.
-ghost use Rattle.difference_text.specs.DifferenceJson.{change_object, difference_json, geometry_member, geometry_value, has_objects, ids_at, ids_text, is_missing, key_member, kinds_member, layer_objects, member_object, member_values, names_text, objects_text, properties_at, single_object};
+ghost use Rattle.difference_text.specs.DifferenceJson.{change_object, difference_json, geometry_member, geometry_value, has_objects, ids_at, ids_text, is_missing, key_member, layer_objects, member_object, member_values, names_text, objects_text, properties_at, single_object};
 ghost use Rattle.difference_text.specs.DifferenceParts.{layer_report, report_of};
-ghost use Rattle.query.specs.AnswerTexts.{id_text_of};
 ghost use Rattle.sinks.specs.Writes.{TookAll, TookPart};
 ghost use Rattle.std.specs.Prelude.{◌≡◌, ◌||◌, OnErr, OnOk, false, slice_get};
 
 use crate::difference::{Difference, FeatureChange, LayerChanges, Single};
 use crate::geometry::GeometryChange;
 use crate::members::MemberChange;
-use crate::parts::{IdText, LayerView, TextOr, View, direction_words, has_other_id, is_one_kind};
+use crate::parts::{LayerView, TextOr, View, direction_words, has_other_id, is_one_kind};
+use query::IdsOf;
 use shapes::Id;
-use sinks::written::{Each, Notation, Text, Then, Written};
+use shapes::writing::KindName;
+use sinks::written::{
+    Each, If, Notation, Noted, Number, OneOf, SeparatedValues, Written, has_some,
+};
 use sinks::{Sink, WriteFault};
-use text_parts::{Chars, Digits, If, OneOf, SeparatedValues, Worded, has_some};
 use topo::{Body, Geom, Topology};
 
 /// The members key, where features pair by a property, and layer.
@@ -23,24 +25,8 @@ impl<'a> Written for KeyMember<'a> {
     ghost text = { λ k. key_member (report_of k.0) k.1.now };
 
     fn write<W: Sink>(&self, sink: &mut W) -> Result<(), WriteFault> {
-        let key = Then(Text(b",\"key\":"), TextOr("null", self.1));
-        let layer = Then(Text(b",\"layer\":"), Chars(self.0.name));
-        Then(If(self.0.is_keyed, key), layer).write(sink)
-    }
-}
-
-/// The id of the geometry of a number, `null` where there is none.
-#[derive(Clone, Copy)]
-struct IdAt<'a>(&'a [Geom], usize);
-
-impl<'a> Written for IdAt<'a> {
-    ghost text = { λ i. id_text_of (slice_get i.0.now i.1) };
-
-    fn write<W: Sink>(&self, sink: &mut W) -> Result<(), WriteFault> {
-        match self.0.get(self.1) {
-            Some(geometry) => IdText(&geometry.id).write(sink),
-            None => Text(b"null").write(sink),
-        }
+        let key = (",\"key\":", TextOr("null", self.1));
+        (If(self.0.is_keyed, key), ",\"layer\":", self.0.name).write(sink)
     }
 }
 
@@ -53,8 +39,8 @@ impl<'a> Written for PropertiesAt<'a> {
 
     fn write<W: Sink>(&self, sink: &mut W) -> Result<(), WriteFault> {
         match self.0.get(self.1) {
-            Some(geometry) => Text(geometry.props.text().as_bytes()).write(sink),
-            None => Text(b"{}").write(sink),
+            Some(geometry) => geometry.props.write(sink),
+            None => "{}".write(sink),
         }
     }
 }
@@ -67,13 +53,17 @@ impl<'a> Notation<Single> for SingleObjects<'a> {
     ghost text = { λ o s. single_object o.0.now (report_of o.1) o.2.now s };
 
     fn write_value<W: Sink>(&self, value: &Single, sink: &mut W) -> Result<(), WriteFault> {
-        let properties = Then(PropertiesAt(self.2, value.number), Text(b"}"));
-        let tail = Then(
+        (
+            "{\"change\":\"",
+            self.0,
+            "\",\"id\":",
+            Noted(&value.number, &IdsOf(self.2)),
             KeyMember(self.1, &value.key),
-            Then(Text(b",\"properties\":"), properties),
-        );
-        let id = Then(Text(b"\",\"id\":"), Then(IdAt(self.2, value.number), tail));
-        Then(Text(b"{\"change\":\""), Then(Chars(self.0), id)).write(sink)
+            ",\"properties\":",
+            PropertiesAt(self.2, value.number),
+            "}",
+        )
+            .write(sink)
     }
 }
 
@@ -88,14 +78,11 @@ impl<'a> Written for MemberValues<'a> {
         match self.0 {
             None => match self.1 {
                 None => Ok(()),
-                Some(new) => Then(Text(b"\"new\":"), Text(new.as_bytes())).write(sink),
+                Some(new) => ("\"new\":", new).write(sink),
             },
             Some(old) => match self.1 {
-                None => Then(Text(b"\"old\":"), Text(old.as_bytes())).write(sink),
-                Some(new) => {
-                    let old = Then(Text(b",\"old\":"), Text(old.as_bytes()));
-                    Then(Then(Text(b"\"new\":"), Text(new.as_bytes())), old).write(sink)
-                }
+                None => ("\"old\":", old).write(sink),
+                Some(new) => (("\"new\":", new), ",\"old\":", old).write(sink),
             },
         }
     }
@@ -109,9 +96,7 @@ impl Notation<MemberChange> for MemberObjects {
     ghost text = { λ _ m. member_object m };
 
     fn write_value<W: Sink>(&self, value: &MemberChange, sink: &mut W) -> Result<(), WriteFault> {
-        let name = Text(value.name.spelling().as_bytes());
-        let values = Then(MemberValues(&value.old, &value.new), Text(b"}"));
-        Then(name, Then(Text(b":{"), values)).write(sink)
+        (&value.name, ":{", MemberValues(&value.old, &value.new), "}").write(sink)
     }
 }
 
@@ -123,9 +108,8 @@ impl<'a> Written for IdsText<'a> {
     ghost text = { λ i. ids_text i.0.now i.1.now };
 
     fn write<W: Sink>(&self, sink: &mut W) -> Result<(), WriteFault> {
-        let old = Then(Text(b",\"old\":"), Then(IdText(self.0), Text(b"}")));
-        let both = Then(Text(b"{\"new\":"), Then(IdText(self.1), old));
-        OneOf(has_other_id(self.0, self.1), both, IdText(self.0)).write(sink)
+        let both = ("{\"new\":", self.1, ",\"old\":", self.0, "}");
+        OneOf(has_other_id(self.0, self.1), both, self.0).write(sink)
     }
 }
 
@@ -140,25 +124,10 @@ impl<'a> Written for IdsAt<'a> {
         match self.0.olds.get(self.1.old) {
             Some(old) => match self.0.news.get(self.1.new) {
                 Some(new) => IdsText(&old.id, &new.id).write(sink),
-                None => Text(b"null").write(sink),
+                None => "null".write(sink),
             },
-            None => Text(b"null").write(sink),
+            None => "null".write(sink),
         }
-    }
-}
-
-/// The kinds of two geometries, where they differ.
-#[derive(Clone, Copy)]
-struct KindsMember<'a>(&'a Body, &'a Body);
-
-impl<'a> Written for KindsMember<'a> {
-    ghost text = { λ k. kinds_member k.0.now k.1.now };
-
-    fn write<W: Sink>(&self, sink: &mut W) -> Result<(), WriteFault> {
-        let old = Then(Chars(self.0.kind_name()), Text(b"\"}"));
-        let new = Then(Chars(self.1.kind_name()), Then(Text(b"\",\"old\":\""), old));
-        let kinds = Then(Text(b",\"kind\":{\"new\":\""), new);
-        OneOf(is_one_kind(self.0, self.1), Text(b""), kinds).write(sink)
     }
 }
 
@@ -171,15 +140,19 @@ impl<'a> Written for GeometryValue<'a> {
 
     fn write<W: Sink>(&self, sink: &mut W) -> Result<(), WriteFault> {
         match self.0 {
-            GeometryChange::Direction => {
-                let words = Then(Chars(direction_words(self.1)), Text(b"\""));
-                Then(Text(b"\""), words).write(sink)
-            }
-            GeometryChange::Order => Text(b"\"vertex order only\"").write(sink),
+            GeometryChange::Direction => ("\"", direction_words(self.1), "\"").write(sink),
+            GeometryChange::Order => "\"vertex order only\"".write(sink),
             GeometryChange::Vertices { gone, new } => {
-                let added = Then(Worded(",\"new\":", Digits(new)), Text(b"}"));
-                let gone = Worded("{\"gone\":", Digits(gone));
-                Then(gone, Then(KindsMember(self.1, self.2), added)).write(sink)
+                let (gone, new) = (("{\"gone\":", Number(gone)), (",\"new\":", Number(new)));
+                let old = ("\",\"old\":\"", KindName(self.1), "\"}");
+                let kinds = (",\"kind\":{\"new\":\"", KindName(self.2), old);
+                (
+                    gone,
+                    OneOf(is_one_kind(self.1, self.2), "", kinds),
+                    new,
+                    "}",
+                )
+                    .write(sink)
             }
         }
     }
@@ -198,7 +171,7 @@ impl<'a> Written for GeometryMember<'a> {
                 Some(old) => match self.0.news.get(self.1.new) {
                     Some(new) => {
                         let value = GeometryValue(change, &old.body, &new.body);
-                        Then(Text(b",\"geometry\":"), value).write(sink)
+                        (",\"geometry\":", value).write(sink)
                     }
                     None => Ok(()),
                 },
@@ -217,12 +190,17 @@ impl<'a> Notation<FeatureChange> for ChangeObjects<'a> {
     ghost text = { λ o c. change_object (report_of o.0) c };
 
     fn write_value<W: Sink>(&self, value: &FeatureChange, sink: &mut W) -> Result<(), WriteFault> {
-        let members = Each(value.members.as_slice(), &MemberObjects);
-        let properties = Then(Text(b",\"properties\":{"), Then(members, Text(b"}}")));
-        let tail = Then(KeyMember(self.0, &value.key), properties);
-        let ids = Then(Text(b",\"id\":"), Then(IdsAt(self.0, value), tail));
-        let geometry = GeometryMember(self.0, value);
-        Then(Text(b"{\"change\":\"changed\""), Then(geometry, ids)).write(sink)
+        (
+            "{\"change\":\"changed\"",
+            GeometryMember(self.0, value),
+            ",\"id\":",
+            IdsAt(self.0, value),
+            KeyMember(self.0, &value.key),
+            ",\"properties\":{",
+            Each(value.members.as_slice(), &MemberObjects),
+            "}}",
+        )
+            .write(sink)
     }
 }
 
@@ -239,24 +217,24 @@ impl<'a> Written for LayerChangeObjects<'a> {
         let news = layer.changes.added.as_slice();
         let has_olds = has_some(self.0, olds.len());
         let removed = SeparatedValues {
-            separator: b",",
+            separator: ",",
             is_behind: self.0,
             values: olds,
             notation: &SingleObjects("removed", layer, layer.olds),
         };
         let added = SeparatedValues {
-            separator: b",",
+            separator: ",",
             is_behind: has_olds,
             values: news,
             notation: &SingleObjects("added", layer, layer.news),
         };
         let changed = SeparatedValues {
-            separator: b",",
+            separator: ",",
             is_behind: has_some(has_olds, news.len()),
             values: layer.changes.changed.as_slice(),
             notation: &ChangeObjects(layer),
         };
-        Then(removed, Then(added, changed)).write(sink)
+        (removed, added, changed).write(sink)
     }
 }
 
@@ -277,29 +255,18 @@ impl<'a> Written for DifferenceObjects<'a> {
     ghost text = { λ o. objects_text (layer_report o.0.difference.now.is_keyed o.0.old.now o.0.new.now) false o.0.difference.now.layers.items };
 
     fn write<W: Sink>(&self, sink: &mut W) -> Result<(), WriteFault> {
-        write_objects(sink, self.0, self.0.difference.layers.as_slice())
-    }
-}
-
-fn write_objects<W: Sink>(
-    sink: &mut W,
-    view: View<'_>,
-    layers: &[LayerChanges],
-) -> Result<(), WriteFault>
-    ensures whole { OnOk result (TookAll (W.seen sink.old) (W.seen sink.new) (objects_text (layer_report view.entry.difference.now.is_keyed view.entry.old.now view.entry.new.now) false layers.now)) }
-    ensures part { OnErr result (TookPart (W.seen sink.old) (W.seen sink.new) (objects_text (layer_report view.entry.difference.now.is_keyed view.entry.old.now view.entry.new.now) false layers.now)) }
-{
-    let mut is_behind = false;
-    let mut left = layers;
-    while let Some((changes, after)) = left.split_first() {
-        let layer = view.layer(changes);
-        match LayerChangeObjects(is_behind, layer).write(sink) {
-            Ok(()) => left = after,
-            Err(fault) => return Err(fault),
+        let mut is_behind = false;
+        let mut left = self.0.difference.layers.as_slice();
+        while let Some((changes, after)) = left.split_first() {
+            let layer = self.0.layer(changes);
+            match LayerChangeObjects(is_behind, layer).write(sink) {
+                Ok(()) => left = after,
+                Err(fault) => return Err(fault),
+            }
+            is_behind = has_objects(is_behind, changes);
         }
-        is_behind = has_objects(is_behind, changes);
+        Ok(())
     }
-    Ok(())
 }
 
 /// Whether a layer was added, or was removed.
@@ -327,31 +294,19 @@ impl<'a> Written for LayerNames<'a> {
     ghost text = { λ n. names_text (layer_report n.0.difference.now.is_keyed n.0.old.now n.0.new.now) n.1 false n.0.difference.now.layers.items };
 
     fn write<W: Sink>(&self, sink: &mut W) -> Result<(), WriteFault> {
-        write_names(sink, self.0, self.1, self.0.difference.layers.as_slice())
-    }
-}
-
-fn write_names<W: Sink>(
-    sink: &mut W,
-    view: View<'_>,
-    is_added: bool,
-    layers: &[LayerChanges],
-) -> Result<(), WriteFault>
-    ensures whole { OnOk result (TookAll (W.seen sink.old) (W.seen sink.new) (names_text (layer_report view.entry.difference.now.is_keyed view.entry.old.now view.entry.new.now) is_added false layers.now)) }
-    ensures part { OnErr result (TookPart (W.seen sink.old) (W.seen sink.new) (names_text (layer_report view.entry.difference.now.is_keyed view.entry.old.now view.entry.new.now) is_added false layers.now)) }
-{
-    let mut is_behind = false;
-    let mut left = layers;
-    while let Some((changes, after)) = left.split_first() {
-        let is_answered = is_missing(is_added, changes);
-        let name = Then(If(is_behind, Text(b",")), Chars(view.layer(changes).name));
-        match If(is_answered, name).write(sink) {
-            Ok(()) => left = after,
-            Err(fault) => return Err(fault),
+        let mut is_behind = false;
+        let mut left = self.0.difference.layers.as_slice();
+        while let Some((changes, after)) = left.split_first() {
+            let is_answered = is_missing(self.1, changes);
+            let name = (If(is_behind, ","), self.0.layer(changes).name);
+            match If(is_answered, name).write(sink) {
+                Ok(()) => left = after,
+                Err(fault) => return Err(fault),
+            }
+            is_behind = is_either(is_behind, is_answered);
         }
-        is_behind = is_either(is_behind, is_answered);
+        Ok(())
     }
-    Ok(())
 }
 
 /// Writes the same as `write_lines` as one JSON object.
@@ -373,20 +328,16 @@ pub fn write_json<W: Sink>(
         new,
     };
     let counts = difference.counts();
-    let end = Then(
-        Worded("]},\"removed\":", Digits(counts.removed)),
-        Text(b"}"),
-    );
-    let removed = Then(Text(b"],\"removed\":["), Then(LayerNames(view, false), end));
-    let layers = Then(
-        Text(b"],\"layers\":{\"added\":["),
-        Then(LayerNames(view, true), removed),
-    );
-    let objects = Then(
-        Text(b",\"differences\":["),
-        Then(DifferenceObjects(view), layers),
-    );
-    let changed = Worded(",\"changed\":", Digits(counts.changed));
-    let added = Worded("{\"added\":", Digits(counts.added));
-    Then(added, Then(changed, objects)).write(sink)
+    let end = (("]},\"removed\":", Number(counts.removed)), "}");
+    (
+        ("{\"added\":", Number(counts.added)),
+        (",\"changed\":", Number(counts.changed)),
+        ",\"differences\":[",
+        DifferenceObjects(view),
+        "],\"layers\":{\"added\":[",
+        LayerNames(view, true),
+        "],\"removed\":[",
+        (LayerNames(view, false), end),
+    )
+        .write(sink)
 }

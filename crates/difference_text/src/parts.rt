@@ -1,18 +1,15 @@
 //! Parts that lines and the JSON object share.
 ghost use Rattle.difference_text.specs.DifferenceParts.{direction_words, has_other_id, layer_name, text_or, layer_report, report_of};
 ghost use Rattle.shapes.specs.Forms.{kind_name};
-ghost use Rattle.query.specs.AnswerTexts.{id_value_text};
-ghost use Rattle.sinks.specs.Writes.{TookAll, TookPart};
 ghost use Rattle.std.specs.Option.{option_copied};
-ghost use Rattle.std.specs.Prelude.{◌≡◌, OnErr, OnOk};
+ghost use Rattle.std.specs.Prelude.{◌≡◌};
 ghost use Rattle.std.specs.Str.{bytes_eq};
 
 use crate::difference::{Difference, LayerChanges, geometries_at, layer_at};
 use crate::geometry::has_lines;
 use shapes::Id;
-use sinks::written::{Number, Text, Written};
+use sinks::written::Written;
 use sinks::{Sink, WriteFault};
-use text_parts::Chars;
 use topo::{Body, Geom, Layer, Topology};
 
 /// A difference and the topologies that it is of.
@@ -64,22 +61,6 @@ impl<'a> View<'a> {
     }
 }
 
-/// An id as JSON; `null` where there is none.
-#[derive(Clone, Copy)]
-pub(crate) struct IdText<'a>(pub(crate) &'a Id);
-
-impl<'a> Written for IdText<'a> {
-    ghost text = { λ i. id_value_text i.0.now };
-
-    fn write<W: Sink>(&self, sink: &mut W) -> Result<(), WriteFault> {
-        match self.0 {
-            Id::None => Text(b"null").write(sink),
-            Id::Number(number) => Number(*number).write(sink),
-            Id::Text(text) => Text(text.spelling().as_bytes()).write(sink),
-        }
-    }
-}
-
 /// A compact text, or other words where it is missing.
 #[derive(Clone, Copy)]
 pub(crate) struct TextOr<'a>(pub(crate) &'a str, pub(crate) &'a Option<String>);
@@ -89,8 +70,8 @@ impl<'a> Written for TextOr<'a> {
 
     fn write<W: Sink>(&self, sink: &mut W) -> Result<(), WriteFault> {
         match self.1 {
-            Some(text) => Text(text.as_bytes()).write(sink),
-            None => Chars(self.0).write(sink),
+            Some(text) => text.write(sink),
+            None => self.0.write(sink),
         }
     }
 }

@@ -10,7 +10,7 @@ use Rattle.sinks.proofs.Writes.{all_all, part_more}
 use Rattle.sinks.proofs.Left.{left_none, left_step, left_part}
 use Rattle.fault_reports.specs.FaultReports.{file_text, lines_text, report_lines}
 use Rattle.fault_reports.specs.FirstReports.{AreCounts, all_kinds, count_of, counted, first_and_more, first_of_each, first_text, is_of, more_line, more_lines, more_text}
-use Rattle.text_parts.specs.TextParts.{each_text}
+use Rattle.sinks.specs.Texts.{each_text}
 use Rattle.fault_reports.specs.declared.counts.FaultCounts.{FaultCounts}
 use Rattle.fault_reports.specs.declared.report.FaultReport.{FaultReport}
 

@@ -6,7 +6,7 @@ use Rattle.faults.specs.declared.fault.Fault.{Fault}
 use Rattle.faults.specs.declared.fault.FaultKind.{FaultKind}
 use Rattle.faults.specs.declared.fault.FaultKind.TheVariants.{NotJson, Missing, WrongKind, UnknownType, NotWhole, OutOfRange, OffGrid, TooShort, NotClosed, Revisit, NoArc, Broken, PropertyNumber, PropertyDepth, NoTransform, NotTwo, OtherGrid, BadPlan, NoLayer, OutOfMemory, Write}
 use Rattle.sinks.specs.PathText.PathText.{path_text}
-use Rattle.sinks.specs.Texts.{bracketed, option_text}
+use Rattle.sinks.specs.Texts.{behind_texts, bracketed, option_text}
 use Rattle.fault_reports.specs.declared.report.FaultReport.{FaultReport}
 
 -- the error that a report is of
@@ -97,15 +97,9 @@ object_end e r = remedy_member e r ++ codes "}"
 abbrev pub object_text : Option (String Global) → Bool → FaultReport → List ℕ
 object_text file e r = (object_place file r ++ object_line r) ++ object_kind r ++ object_end e r
 
--- an object, behind a comma where others are before it
-abbrev pub object_behind : Bool → Option (String Global) → Bool → FaultReport → List ℕ
-object_behind false file e r = object_text file e r
-object_behind true file e r = codes ",\n" ++ object_text file e r
-
--- the objects of all reports of a file, in order, with commas between them
+-- the objects of all reports of a file, in order, with commas between them, the first behind a comma where others are before it
 abbrev pub objects_text : Option (String Global) → Bool → Bool → List FaultReport → List ℕ
-objects_text file e is_behind [] = []
-objects_text file e is_behind (r ∷ rs) = object_behind is_behind file e r ++ objects_text file e true rs
+objects_text file e is_behind = behind_texts (codes ",\n") is_behind (object_text file e)
 
 -- the reports of a text without a name, as a JSON array
 abbrev pub array_text : List FaultReport → List ℕ

@@ -4,7 +4,7 @@ use Rattle.faults.specs.Fault.{number_of, name_of}
 use Rattle.faults.specs.declared.fault.FaultKind.{FaultKind}
 use Rattle.faults.specs.declared.fault.FaultKind.TheVariants.{NotJson, Missing, WrongKind, UnknownType, NotWhole, OutOfRange, OffGrid, TooShort, NotClosed, Revisit, NoArc, Broken, PropertyNumber, PropertyDepth, NoTransform, NotTwo, OtherGrid, BadPlan, NoLayer, OutOfMemory, Write}
 use Rattle.fault_reports.specs.FaultReports.{lines_text}
-use Rattle.text_parts.specs.TextParts.{each_text}
+use Rattle.sinks.specs.Texts.{each_text}
 use Rattle.fault_reports.specs.declared.counts.FaultCounts.{FaultCounts}
 use Rattle.fault_reports.specs.declared.report.FaultReport.{FaultReport}
 

@@ -4,3 +4,4 @@ pub mod FaultyFeatures
 pub mod FirstReports
 pub mod LineColumns
 pub mod ReportsOfTexts
+pub mod FilesText

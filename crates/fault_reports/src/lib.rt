@@ -3,6 +3,7 @@
 
 mod counts;
 mod features;
+mod files;
 mod line_columns;
 mod more;
 mod places;
@@ -10,11 +11,11 @@ mod remedies;
 mod report;
 mod shared_text;
 mod steps;
-mod unexpected;
 mod written;
 
 pub use features::Format;
+pub use files::{FileReports, FilesArray, FilesText};
 pub use line_columns::LineColumn;
-pub use report::{FaultReport, reports, spell_text};
+pub use report::{FaultReport, report_of_end, reports, spell_text};
 pub use shared_text::SharedText;
-pub use written::{ReportArray, write_first_lines, write_json, write_lines};
+pub use written::{ReportArray, write_first_lines, write_lines};

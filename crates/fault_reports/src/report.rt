@@ -6,17 +6,20 @@ ghost use Rattle.fault_reports.specs.ReportsOfTexts.{HasItsId, IsIdAt, IsPlaceIn
 ghost use Rattle.serde_json.specs.View.{view};
 ghost use Rattle.serde_json.specs.Written.{compact_text, has_float};
 ghost use Rattle.sinks.specs.PathText.PathText.{path_text};
-ghost use Rattle.std.specs.Prelude.{◌≡◌, All, IfOk, IfSome, false, map, option_map, string_bytes};
+ghost use Rattle.fault_reports.specs.declared.features.Format.TheVariants.{GeoJson};
+ghost use Rattle.faults.specs.declared.fault.FaultKind.TheVariants.{NotJson};
+ghost use Rattle.reading.specs.Text.{document};
+ghost use Rattle.std.specs.Prelude.{◌≡◌, ◌≤◌, None, length, All, IfOk, IfSome, false, map, option_map, string_bytes};
 
 use crate::features::{Format, id_at, is_one_feature, member_at};
 use crate::line_columns::{LineColumn, line_columns, place_at};
 use crate::places::places;
 use crate::shared_text::SharedText;
-use crate::unexpected::unexpected_token;
 use faults::{Fault, FaultKind, OutOfMemory, Step};
+use reading::tokens::end::end_of_json;
 use serde_json::Value;
-use sinks::Kept;
-use sinks::path_text::write_path;
+use sinks::path_text::PathText;
+use sinks::to_bytes;
 use std::alloc::Global;
 
 /// An error, and what is reported of it.
@@ -94,11 +97,7 @@ fn spell_name(alloc: Global, name: Option<&str>) -> Result<Option<String>, OutOf
 fn spell_path(alloc: Global, path: &[Step]) -> Result<String, OutOfMemory>
     ensures { IfOk result (λ s. string_bytes s ≡ quoted (path_text (map turn_of path.now))) }
 {
-    let mut kept = Kept::new(alloc);
-    if write_path(path, &mut kept).is_err() {
-        return Err(OutOfMemory);
-    }
-    let bytes = kept.into_bytes();
+    let bytes = to_bytes(alloc, &PathText(path))?;
     match std::str::from_utf8(bytes.as_slice()) {
         Ok(text) => spell_text(alloc, text),
         Err(_) => Err(OutOfMemory),
@@ -152,31 +151,19 @@ fn places_of(alloc: Global, bytes: &[u8], faults: &[Fault]) -> Result<Vec<LineCo
     }
 }
 
-/// The places of the errors of a text that `serde_json` doesn't read: where it stops being JSON, if that is the error. In
-/// another text a number is too great for a float, or values nest too deep, and the errors have their places.
-fn places_without(
-    alloc: Global,
-    bytes: &[u8],
-    faults: &[Fault],
-) -> Result<Vec<LineColumn>, OutOfMemory>
-    ensures { IfOk result (λ v. All (IsPlaceIn bytes.now) v.items) }
-{
-    match faults {
-        [
-            Fault {
-                kind: FaultKind::NotJson,
-                ..
-            },
-        ] => {
-            let mut places = Vec::new(alloc);
-            places.push(place_at(bytes, unexpected_token(alloc, bytes)?))?;
-            Ok(places)
-        }
-        _ => places_of(alloc, bytes, faults),
-    }
+/// Whether the one error is that a text is no JSON.
+fn is_not_json(faults: &[Fault]) -> bool {
+    matches!(
+        faults,
+        [Fault {
+            kind: FaultKind::NotJson,
+            ..
+        }]
+    )
 }
 
-/// The value of a text, null where `serde_json` doesn't read it, and the places of its errors.
+/// The value of a text, null where `serde_json` doesn't read it, and the places of its errors. Where the error is that the text
+/// is no JSON, no value is made of it.
 fn value_and_places(
     alloc: Global,
     bytes: &[u8],
@@ -185,15 +172,36 @@ fn value_and_places(
     ensures value { IfOk result (λ p. IsReadAs bytes.now (view p.0)) }
     ensures places { IfOk result (λ p. All (IsPlaceIn bytes.now) p.1.items) }
 {
+    if is_not_json(faults) {
+        if let Some(at) = end_of_json(alloc, bytes)? {
+            let mut places = Vec::new(alloc);
+            places.push(place_at(bytes, at))?;
+            return Ok((Value::Null, places));
+        }
+    }
+    let places = places_of(alloc, bytes, faults)?;
     match Value::from_slice(alloc, bytes) {
-        Ok(value) => Ok((value, places_of(alloc, bytes, faults)?)),
+        Ok(value) => Ok((value, places)),
         Err(error) => {
             if error.is_memory() {
                 return Err(OutOfMemory);
             }
-            Ok((Value::Null, places_without(alloc, bytes, faults)?))
+            Ok((Value::Null, places))
         }
     }
+}
+
+/// What is reported of a GeoJSON text that is no JSON from this byte on.
+///
+/// # Errors
+/// Where memory is refused.
+pub fn report_of_end(alloc: Global, bytes: &[u8], at: usize) -> Result<FaultReport, OutOfMemory>
+    ensures fault { IfOk result (λ r. r.fault.kind ≡ NotJson) }
+    ensures report { IfOk result (λ r. at ≤ length bytes.now → document bytes.now ≡ None → IsReport GeoJson bytes.now r) }
+{
+    let fault = Fault::here(alloc, FaultKind::NotJson);
+    let place = place_at(bytes, at);
+    report_of(alloc, Format::GeoJson, &Value::Null, None, fault, place)
 }
 
 /// What is reported of each error of a text, in their order.

@@ -1,6 +1,8 @@
 //! A text with several owners, which contracts see as that text.
 ghost use Rattle.std.specs.Prelude.{◌≡◌, IfOk};
 
+use sinks::written::Written;
+use sinks::{Sink, WriteFault};
 use std::alloc::{AllocError, Global};
 use std::marker::Model;
 use std::rc::Rc;
@@ -42,5 +44,15 @@ impl SharedText {
         ensures { result.now ≡ self.now }
     {
         &self.text
+    }
+}
+
+impl Written for SharedText {
+    ghost use Rattle.std.specs.Prelude.{string_bytes};
+
+    ghost text = { λ s. string_bytes s };
+
+    fn write<W: Sink>(&self, sink: &mut W) -> Result<(), WriteFault> {
+        self.text().write(sink)
     }
 }

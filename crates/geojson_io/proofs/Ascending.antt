@@ -23,8 +23,8 @@ use Rattle.reading.proofs.FaultListsLemmas.Ascending.{ascending_none, ascending_
 use Rattle.geojson_io.specs.Positions.{grid_faults, axis_faults, coordinate_faults, position_faults, positions_faults, positions_of, outline_at_faults, line_at_faults, ring_at_faults}
 use Rattle.geojson_io.specs.Geometries.{coordinates_faults, typed_geometry_faults, geometry_faults}
 use Rattle.geojson_io.specs.Features.{feature_members, feature_named, element_of_features_faults, root_type, root_faults, geojson_faults, faults_of_text}
-use Rattle.geojson_io.specs.declared.reader.Root.{Root}
-use Rattle.geojson_io.specs.declared.reader.Root.TheVariants.{Collection, Feature, Geometry}
+use Rattle.geojson_io.specs.declared.parts.root.Root.{Root}
+use Rattle.geojson_io.specs.declared.parts.root.Root.TheVariants.{Collection, Feature, Geometry}
 
 ascending_axis : (s : Scaling) (a : ℤ) → IsAscending (axis_faults s a)
 ascending_axis s a = go (axis_number s a)

@@ -29,8 +29,8 @@ use Rattle.reading.proofs.Shapes.{all_read, kind_fits}
 use Rattle.geojson_io.specs.Positions.{grid_faults, axis_faults, coordinate_faults, number_or_zero, grid_number, position_faults, position_in, position_of, positions_faults, positions_of, line_at_faults, line_at, ring_at_faults, ring_at}
 use Rattle.geojson_io.specs.Geometries.{coordinates_faults, form_of, typed_geometry_faults, typed_form, geometry_faults, form_by, geometry_form}
 use Rattle.geojson_io.specs.Features.{feature_members, feature_of, element_of_features_faults, feature_named, root_faults, root_type, geojson_faults, features_by, features_of, features_or_none, features_of_text, faults_of_text}
-use Rattle.geojson_io.specs.declared.reader.Root.{Root}
-use Rattle.geojson_io.specs.declared.reader.Root.TheVariants as root
+use Rattle.geojson_io.specs.declared.parts.root.Root.{Root}
+use Rattle.geojson_io.specs.declared.parts.root.Root.TheVariants as root
 
 -- ---- numbers
 

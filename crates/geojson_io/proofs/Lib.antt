@@ -1,9 +1,9 @@
 pub mod Ascending
 pub mod Places
 pub mod Sets
+pub mod Sound
 pub mod Collections
 pub mod Fitting
-pub mod TokenCoordinates
 pub mod TokenMembers
 pub mod TokenPositions
 pub mod TokenShapes

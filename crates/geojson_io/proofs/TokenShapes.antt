@@ -1,5 +1,5 @@
 -- Shapes out of coordinates.
-use Rattle.std.proofs.Common.{◌≡◌, ℕ, ◌+◌, List, [], ◌∷◌, ◌++◌, Option, Some, None, Vec, Global, map, refl, sym, subst, ap, ap₂, ◌∙◌}
+use Rattle.std.proofs.Common.{◌≡◌, ℕ, ◌+◌, List, [], ◌∷◌, ◌++◌, Option, Some, None, map, refl, sym, subst, ap, ap₂, ◌∙◌}
 use Rattle.std.specs.List.{AllZip}
 use Rattle.serde_json.specs.Data.{Data, Items}
 use Rattle.serde_json.specs.Find.{as_array}
@@ -29,21 +29,21 @@ none_under : (i : ℕ) (ps qs : List Pair) → under (index i) ps ++ qs ≡ [] �
 none_under i [] qs e = (refl, e)
 none_under i (p ∷ ps) qs e = absurd (cc)
 
-abbrev Places : Transform → Data → Vec Pos Global → Type 0
-Places t e ps = AllZip (λ f p. p ≡ position_of t f) (elements e) ps.items
+abbrev Places : Transform → Data → List Pos → Type 0
+Places t e ps = AllZip (λ f p. p ≡ position_of t f) (elements e) ps
 
 module _ {O : Type 0} (t : Transform) (fault : List Pos → Option ShapeFault) (seen : O → List Pos) (of : List Pos → List Pos) where
   abbrev at : Data → List Pair
   at = outline_at_faults t (λ ps. outline_faults (fault ps))
 
   -- one outline
-  pub one_outline : (d : Data) (ps : Vec Pos Global) (o : O) → positions_faults t d ≡ [] → Places t d ps → OutlineOf fault seen of ps o → (at d ≡ []) × (seen o ≡ of (positions_of t d))
+  pub one_outline : (d : Data) (ps : List Pos) (o : O) → positions_faults t d ≡ [] → Places t d ps → OutlineOf fault seen of ps o → (at d ≡ []) × (seen o ≡ of (positions_of t d))
   one_outline d ps o none places made =
-      let same : ps.items ≡ positions_of t d = zip_is (position_of t) (elements d) ps.items places in
+      let same : ps ≡ positions_of t d = zip_is (position_of t) (elements d) ps places in
       (rw none (ap (λ qs. outline_faults (fault qs)) (sym same) ∙ ap outline_faults made.0), made.1 ∙ ap of same)
 
   -- a list of them
-  each_outline : (i : ℕ) (ds : List Data) (ls : List (Vec Pos Global)) (os : List O) → each_faults (positions_faults t) i ds ≡ [] → AllZip (Places t) ds ls → AllZip (OutlineOf fault seen of) ls os
+  each_outline : (i : ℕ) (ds : List Data) (ls : List (List Pos)) (os : List O) → each_faults (positions_faults t) i ds ≡ [] → AllZip (Places t) ds ls → AllZip (OutlineOf fault seen of) ls os
       → (each_faults at i ds ≡ []) × (map seen os ≡ map (λ e. of (positions_of t e)) ds)
   each_outline i [] [] [] none places made = (refl, refl)
   each_outline i [] [] (o ∷ os) none places made = absurd made
@@ -56,25 +56,25 @@ module _ {O : Type 0} (t : Transform) (fault : List Pos → Option ShapeFault) (
       let rest = each_outline (i + 1) ds ls os apart.1 places.1 made.1 in
       (ap₂ (λ ps qs. under (index i) ps ++ qs) first.0 rest.0, ap₂ (λ x xs. x ∷ xs) first.1 rest.1)
 
-  list_outlines_by : (a : Option Items) (d : Data) → as_array d ≡ a → (ls : List (Vec Pos Global)) (os : List O) → list_faults (positions_faults t) d ≡ [] → AllZip (Places t) (elements d) ls → AllZip (OutlineOf fault seen of) ls os
+  list_outlines_by : (a : Option Items) (d : Data) → as_array d ≡ a → (ls : List (List Pos)) (os : List O) → list_faults (positions_faults t) d ≡ [] → AllZip (Places t) (elements d) ls → AllZip (OutlineOf fault seen of) ls os
       → (list_faults at d ≡ []) × (map seen os ≡ map (λ e. of (positions_of t e)) (elements d))
   list_outlines_by None d is ls os none places made = let never = rw is at none in absurd (cc)
   list_outlines_by (Some ds) d is ls os none places made =
       let both = each_outline 0 (list_of ds) ls os (rw is at none) (rw is at places) made in
       (rw is both.0, rw is both.1)
 
-  pub list_outlines : (d : Data) (ls : List (Vec Pos Global)) (os : List O) → list_faults (positions_faults t) d ≡ [] → AllZip (Places t) (elements d) ls → AllZip (OutlineOf fault seen of) ls os
+  pub list_outlines : (d : Data) (ls : List (List Pos)) (os : List O) → list_faults (positions_faults t) d ≡ [] → AllZip (Places t) (elements d) ls → AllZip (OutlineOf fault seen of) ls os
       → (list_faults at d ≡ []) × (map seen os ≡ map (λ e. of (positions_of t e)) (elements d))
   list_outlines d = list_outlines_by (as_array d) d refl
 
-  abbrev Lists : Data → Vec (Vec Pos Global) Global → Type 0
-  Lists e ls = AllZip (Places t) (elements e) ls.items
+  abbrev Lists : Data → List (List Pos) → Type 0
+  Lists e ls = AllZip (Places t) (elements e) ls
 
-  abbrev Made : Vec (Vec Pos Global) Global → List O → Type 0
-  Made ls os = AllZip (OutlineOf fault seen of) ls.items os
+  abbrev Made : List (List Pos) → List O → Type 0
+  Made ls os = AllZip (OutlineOf fault seen of) ls os
 
   -- a list of lists of them
-  each_list : (i : ℕ) (ds : List Data) (gs : List (Vec (Vec Pos Global) Global)) (ps : List (List O)) → each_faults (list_faults (positions_faults t)) i ds ≡ [] → AllZip Lists ds gs → AllZip Made gs ps
+  each_list : (i : ℕ) (ds : List Data) (gs : List (List (List Pos))) (ps : List (List O)) → each_faults (list_faults (positions_faults t)) i ds ≡ [] → AllZip Lists ds gs → AllZip Made gs ps
       → (each_faults (list_faults at) i ds ≡ []) × (map (map seen) ps ≡ map (λ p. map (λ e. of (positions_of t e)) (elements p)) ds)
   each_list i [] [] [] none places made = (refl, refl)
   each_list i [] [] (o ∷ os) none places made = absurd made
@@ -83,17 +83,17 @@ module _ {O : Type 0} (t : Transform) (fault : List Pos → Option ShapeFault) (
   each_list i (d ∷ ds) (l ∷ ls) [] none places made = absurd made
   each_list i (d ∷ ds) (l ∷ ls) (o ∷ os) none places made =
       let apart = none_under i (list_faults (positions_faults t) d) (each_faults (list_faults (positions_faults t)) (i + 1) ds) none in
-      let first = list_outlines d l.items o apart.0 places.0 made.0 in
+      let first = list_outlines d l o apart.0 places.0 made.0 in
       let rest = each_list (i + 1) ds ls os apart.1 places.1 made.1 in
       (ap₂ (λ ps qs. under (index i) ps ++ qs) first.0 rest.0, ap₂ (λ x xs. x ∷ xs) first.1 rest.1)
 
-  list_lists_by : (a : Option Items) (d : Data) → as_array d ≡ a → (gs : List (Vec (Vec Pos Global) Global)) (ps : List (List O)) → list_faults (list_faults (positions_faults t)) d ≡ [] → AllZip Lists (elements d) gs → AllZip Made gs ps
+  list_lists_by : (a : Option Items) (d : Data) → as_array d ≡ a → (gs : List (List (List Pos))) (ps : List (List O)) → list_faults (list_faults (positions_faults t)) d ≡ [] → AllZip Lists (elements d) gs → AllZip Made gs ps
       → (list_faults (list_faults at) d ≡ []) × (map (map seen) ps ≡ map (λ p. map (λ e. of (positions_of t e)) (elements p)) (elements d))
   list_lists_by None d is gs ps none places made = let never = rw is at none in absurd (cc)
   list_lists_by (Some ds) d is gs ps none places made =
       let both = each_list 0 (list_of ds) gs ps (rw is at none) (rw is at places) made in
       (rw is both.0, rw is both.1)
 
-  pub list_lists : (d : Data) (gs : List (Vec (Vec Pos Global) Global)) (ps : List (List O)) → list_faults (list_faults (positions_faults t)) d ≡ [] → AllZip Lists (elements d) gs → AllZip Made gs ps
+  pub list_lists : (d : Data) (gs : List (List (List Pos))) (ps : List (List O)) → list_faults (list_faults (positions_faults t)) d ≡ [] → AllZip Lists (elements d) gs → AllZip Made gs ps
       → (list_faults (list_faults at) d ≡ []) × (map (map seen) ps ≡ map (λ p. map (λ e. of (positions_of t e)) (elements p)) (elements d))
   list_lists d = list_lists_by (as_array d) d refl

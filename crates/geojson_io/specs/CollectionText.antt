@@ -1,17 +1,18 @@
 -- The text of a FeatureCollection (RFC 7946, section 3).
-use Rattle.std.specs.Prelude.{ℕ, List, ◌++◌, codes}
+use Rattle.std.specs.Prelude.{ℕ, List, ◌++◌, codes, cond}
 use Rattle.grid.specs.Place.{Transform}
 use Rattle.grid.specs.Fits.{absolute_place}
 use Rattle.grid.specs.declared.pos.Pos.{Pos}
 use Rattle.lines.specs.Seen.{positions_of, vertices_of}
+use Rattle.shapes.specs.Forms.{is_null, kind_name}
 use Rattle.shapes.specs.Parts.{properties_text}
 use Rattle.shapes.specs.declared.shape.Id.{Id}
 use Rattle.shapes.specs.Shapes.{Shape}
 use Rattle.shapes.specs.declared.form.Form.{Form}
-use Rattle.shapes.specs.declared.form.Form.TheVariants as of
 use Rattle.shapes.specs.declared.feature.Feature.{Feature}
 use Rattle.sinks.specs.Texts.{joined, bracketed, list_text, pair_text, framed}
 use Rattle.theory.specs.LinesAndRings.{closed}
+use Rattle.shapes.specs.Writing.Forms.{form_content}
 use Rattle.shapes.specs.Writing.Members.{id_text}
 
 -- a position by its absolute numbers [RFC 7946, 3.1; starting place own]
@@ -34,15 +35,13 @@ ring_text t vs = bracketed (closed_text t vs)
 abbrev pub geometry_text : List ℕ → List ℕ → List ℕ
 geometry_text coordinates name = codes "{\"coordinates\":" ++ (coordinates ++ (codes ",\"type\":\"" ++ (name ++ codes "\"}")))
 
+-- a geometry of these coordinates, or null [RFC 7946, 3.1 and 3.2]
+abbrev pub form_geometry : {L R : Type 0} → List ℕ → Form L R → List ℕ
+form_geometry coordinates form = cond (is_null form) (codes "null") (geometry_text coordinates (kind_name form))
+
 -- a geometry, or null, where positions, lines and rings have these texts [RFC 7946, 3.1]
 abbrev pub form_text : {L R : Type 0} → (Pos → List ℕ) → (L → List ℕ) → (R → List ℕ) → Form L R → List ℕ
-form_text place line ring of.Null = codes "null"
-form_text place line ring (of.Point p) = geometry_text (place p) (codes "Point")
-form_text place line ring (of.MultiPoint ps) = geometry_text (list_text place ps) (codes "MultiPoint")
-form_text place line ring (of.Line l) = geometry_text (line l) (codes "LineString")
-form_text place line ring (of.MultiLine ls) = geometry_text (list_text line ls) (codes "MultiLineString")
-form_text place line ring (of.Polygon rs) = geometry_text (list_text ring rs) (codes "Polygon")
-form_text place line ring (of.MultiPolygon ps) = geometry_text (list_text (list_text ring) ps) (codes "MultiPolygon")
+form_text place line ring form = form_geometry (form_content place line ring form) form
 
 -- the geometry of a shape, or null [RFC 7946, 3.1]
 abbrev pub shape_text : Transform → Shape → List ℕ

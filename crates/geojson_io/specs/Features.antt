@@ -13,8 +13,8 @@ use Rattle.reading.specs.Text.{document, text_faults, said_of}
 use Rattle.reading.specs.Types.{geometry_named}
 use Rattle.reading.specs.declared.geometry.GeometryType.{GeometryType}
 use Rattle.geojson_io.specs.Geometries.{geometry_faults, geometry_form, typed_geometry_faults, typed_form}
-use Rattle.geojson_io.specs.declared.reader.Root.{Root}
-use Rattle.geojson_io.specs.declared.reader.Root.TheVariants.{Collection, Feature, Geometry}
+use Rattle.geojson_io.specs.declared.parts.root.Root.{Root}
+use Rattle.geojson_io.specs.declared.parts.root.Root.TheVariants.{Collection, Feature, Geometry}
 
 -- ---- features
 

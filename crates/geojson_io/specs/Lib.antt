@@ -5,3 +5,4 @@ pub mod Features
 pub mod TokenCoordinates
 pub mod TokenMembers
 pub mod Laws
+pub mod TextFaults

@@ -1,10 +1,14 @@
 -- Coordinates by how deep their brackets nest.
-use Rattle.std.specs.Prelude.{◌≡◌, List, [], Option, None, Vec}
+use Rattle.std.specs.Prelude.{◌≡◌, List, [], Option, Some, None, Vec}
 use Rattle.std.specs.List.{AllZip}
 use Rattle.std.specs.declared.alloc.Global.{Global}
 use Rattle.grid.specs.declared.pos.Pos.{Pos}
+use Rattle.json.specs.Json.{Json}
+use Rattle.json_parts.specs.declared.nested.Nested.{Nested}
+use Rattle.json_parts.specs.declared.nested.Nested.TheVariants as nested
 use Rattle.lines.specs.declared.shape_fault.ShapeFault.{ShapeFault}
 use Rattle.serde_json.specs.Data.{Data, array, no_items}
+use Rattle.serde_json.specs.Read.{of_json}
 use Rattle.faults.specs.Fault.{Pair}
 use Rattle.grid.specs.Place.{Transform}
 use Rattle.reading.specs.Parts.{list_faults, elements}
@@ -18,37 +22,47 @@ use Rattle.reading.specs.declared.geometry.GeometryType.{GeometryType}
 use Rattle.shapes.specs.Shapes.{Shape}
 use Rattle.geojson_io.specs.Geometries.{coordinates_faults, form_of}
 use Rattle.geojson_io.specs.Positions.{position_faults, position_of}
-use Rattle.geojson_io.specs.declared.token_reader.coordinates.Coordinates.{Coordinates}
-use Rattle.geojson_io.specs.declared.token_reader.coordinates.Coordinates.TheVariants.{Empty, Place, Places, Lists, Groups}
 
 -- the faults of coordinates that nest as these do
-abbrev pub nested_faults : Transform → Coordinates → Data → List Pair
-nested_faults t Empty = list_faults (position_faults t)
-nested_faults t (Place p) = position_faults t
-nested_faults t (Places ps) = list_faults (position_faults t)
-nested_faults t (Lists ls) = list_faults (list_faults (position_faults t))
-nested_faults t (Groups gs) = list_faults (list_faults (list_faults (position_faults t)))
+abbrev pub nested_faults : Transform → Nested Pos → Data → List Pair
+nested_faults t nested.Empty = list_faults (position_faults t)
+nested_faults t (nested.One p) = position_faults t
+nested_faults t (nested.List ps) = list_faults (position_faults t)
+nested_faults t (nested.Lists ls) = list_faults (list_faults (position_faults t))
+nested_faults t (nested.Groups gs) = list_faults (list_faults (list_faults (position_faults t)))
+
+-- a position
+abbrev pub IsPlace : Transform → Data → Pos → Type 0
+IsPlace t d p = p ≡ position_of t d
+
+-- each element means the one beside it
+abbrev pub AreEach : {X : Type 0} → (Data → X → Type 0) → Data → List X → Type 0
+AreEach means d xs = AllZip means (elements d) xs
 
 -- what they mean
-abbrev pub CoordinatesMean : Transform → Data → Coordinates → Type 0
-CoordinatesMean t d Empty = d ≡ array no_items
-CoordinatesMean t d (Place p) = p ≡ position_of t d
-CoordinatesMean t d (Places ps) = AllZip (λ e p. p ≡ position_of t e) (elements d) ps.items
-CoordinatesMean t d (Lists ls) = AllZip (λ e ps. AllZip (λ f p. p ≡ position_of t f) (elements e) ps.items) (elements d) ls.items
-CoordinatesMean t d (Groups gs) = AllZip (λ c ls. AllZip (λ e ps. AllZip (λ f p. p ≡ position_of t f) (elements e) ps.items) (elements c) ls.items) (elements d) gs.items
+abbrev pub CoordinatesMean : Transform → Data → Nested Pos → Type 0
+CoordinatesMean t d nested.Empty = d ≡ array no_items
+CoordinatesMean t d (nested.One p) = IsPlace t d p
+CoordinatesMean t d (nested.List ps) = AreEach (IsPlace t) d ps
+CoordinatesMean t d (nested.Lists ls) = AreEach (AreEach (IsPlace t)) d ls
+CoordinatesMean t d (nested.Groups gs) = AreEach (AreEach (AreEach (IsPlace t))) d gs
+
+-- coordinates that `serde_json` reads, which have no fault by how they nest
+abbrev pub AreCoordinates : Transform → Json → Nested Pos → Type 0
+AreCoordinates t j n = (d : Data) × (of_json j ≡ Some d) × (nested_faults t n d ≡ []) × CoordinatesMean t d n
 
 -- a list of positions is a line or a ring, and this one
-abbrev pub OutlineOf : {O : Type 0} → (List Pos → Option ShapeFault) → (O → List Pos) → (List Pos → List Pos) → Vec Pos Global → O → Type 0
-OutlineOf fault seen of ps o = (fault ps.items ≡ None) × (seen o ≡ of ps.items)
+abbrev pub OutlineOf : {O : Type 0} → (List Pos → Option ShapeFault) → (O → List Pos) → (List Pos → List Pos) → List Pos → O → Type 0
+OutlineOf fault seen of ps o = (fault ps ≡ None) × (seen o ≡ of ps)
 
 -- each list of positions is a line, or each a ring, and the one beside it
-abbrev pub OutlinesOf : {O : Type 0} → (List Pos → Option ShapeFault) → (O → List Pos) → (List Pos → List Pos) → Vec (Vec Pos Global) Global → Vec O Global → Type 0
-OutlinesOf fault seen of ls os = AllZip (OutlineOf fault seen of) ls.items os.items
+abbrev pub OutlinesOf : {O : Type 0} → (List Pos → Option ShapeFault) → (O → List Pos) → (List Pos → List Pos) → List (List Pos) → Vec O Global → Type 0
+OutlinesOf fault seen of ls os = AllZip (OutlineOf fault seen of) ls os.items
 
 -- the shape that coordinates which nest so mean, in a geometry of that type
-abbrev pub IsShapeOf : GeometryType → Coordinates → Shape → Type 0
+abbrev pub IsShapeOf : GeometryType → Nested Pos → Shape → Type 0
 IsShapeOf k n s = (t : Transform) (d : Data) → nested_faults t n d ≡ [] → CoordinatesMean t d n → (coordinates_faults t k d ≡ []) × (plain_form s ≡ form_of t k d)
 
 -- lists of lists of positions are polygons of these rings
-abbrev pub PolygonsOf : Vec (Vec (Vec Pos Global) Global) Global → Vec (List Ring) Global → Type 0
-PolygonsOf gs ps = AllZip (λ g rs. AllZip (OutlineOf (ring_fault position_cmp) vertices_of ring_of) g.items rs) gs.items ps.items
+abbrev pub PolygonsOf : List (List (List Pos)) → Vec (List Ring) Global → Type 0
+PolygonsOf gs ps = AllZip (λ g rs. AllZip (OutlineOf (ring_fault position_cmp) vertices_of ring_of) g rs) gs ps.items

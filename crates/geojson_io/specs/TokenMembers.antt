@@ -1,65 +1,64 @@
 -- What is known of the members that are read, of a geometry, a feature and a root.
-use Rattle.std.specs.Prelude.{◌≡◌, [], Option, Some, None, Ok, Vec, codes}
-use Rattle.std.specs.List.{AllZip}
+use Rattle.std.specs.Prelude.{◌≡◌, [], ℕ, List, None, Ok, Vec, codes, map, ⊤}
 use Rattle.std.specs.declared.alloc.Global.{Global}
-use Rattle.serde_json.specs.Data.{Data, Members, object}
-use Rattle.serde_json.specs.Find.{get}
+use Rattle.json.specs.Json.{Json, Members}
+use Rattle.json_parts.specs.Arrays.{ArrayMeans}
+use Rattle.json_parts.specs.Members.{IsNamed, KnowsMember}
+use Rattle.json_parts.specs.declared.lookup.Lookup.{Lookup}
+use Rattle.json_parts.specs.declared.nested.Nested.{Nested}
+use Rattle.json_parts.specs.declared.text.TextRead.{TextRead}
+use Rattle.json_parts.specs.declared.text.TextRead.TheVariants as text_read
 use Rattle.grid.specs.Place.{Transform}
-use Rattle.reading.specs.Parts.{unless_null, list_faults, elements}
+use Rattle.grid.specs.declared.pos.Pos.{Pos}
+use Rattle.reading.specs.Converted.{IsConverted}
+use Rattle.reading.specs.Info.{IsIdOf, id_faults, properties_faults, properties_of}
+use Rattle.reading.specs.Parts.{unless_null}
 use Rattle.reading.specs.Plain.{plain, plain_form}
-use Rattle.reading.specs.Types.{geometry_type}
-use Rattle.reading.specs.declared.geometry.GeometryType.{GeometryType}
+use Rattle.reading.specs.Text.{document}
+use Rattle.shapes.specs.Parts.{properties_text}
 use Rattle.shapes.specs.declared.feature.Feature.{Feature}
 use Rattle.shapes.specs.declared.props.Props.{Props}
 use Rattle.shapes.specs.declared.shape.Id.{Id}
 use Rattle.shapes.specs.Shapes.{Shape}
-use Rattle.reading.specs.TokenParts.Members.{KnowsMember, KnowsId, KnowsProps}
-use Rattle.geojson_io.specs.Features.{feature_of, element_of_features_faults, root_type}
+use Rattle.geojson_io.specs.Features.{element_of_features_faults, faults_of_text, feature_of, features_of_text, root_named}
 use Rattle.geojson_io.specs.Geometries.{geometry_faults, geometry_form}
-use Rattle.geojson_io.specs.TokenCoordinates.{nested_faults, CoordinatesMean}
-use Rattle.geojson_io.specs.declared.reader.Root.{Root}
-use Rattle.geojson_io.specs.declared.reader.Root.TheVariants as root
-use Rattle.geojson_io.specs.declared.token_reader.coordinates.Coordinates.{Coordinates}
+use Rattle.geojson_io.specs.TokenCoordinates.{AreCoordinates}
+use Rattle.geojson_io.specs.declared.parts.root.Root.{Root}
 
--- ---- a geometry
+-- the type
+abbrev pub KnowsType : Lookup Root → Members → Type 0
+KnowsType = KnowsMember (codes "type") (IsNamed (λ r s. root_named s ≡ Ok r))
 
--- the geometry type, where it is read already, is that of the members
-abbrev pub KnowsKind : Option GeometryType → Members → Type 0
-KnowsKind None ms = Unit {0}
-KnowsKind (Some k) ms = geometry_type (object ms) ≡ Ok k
+-- the member `coordinates`
+abbrev pub KnowsCoordinates : Transform → Lookup (Nested Pos) → Members → Type 0
+KnowsCoordinates g = KnowsMember (codes "coordinates") (AreCoordinates g)
 
--- the coordinates, where they are read already, have no fault and are those of the members
-abbrev pub KnowsCoordinates : Transform → Option Coordinates → Members → Type 0
-KnowsCoordinates t None ms = Unit {0}
-KnowsCoordinates t (Some n) ms = (d : Data) × (get (codes "coordinates") (object ms) ≡ Some d) × (nested_faults t n d ≡ []) × CoordinatesMean t d n
+-- the member `geometry`
+abbrev pub KnowsShape : Transform → Lookup Shape → Members → Type 0
+KnowsShape g = KnowsMember (codes "geometry") (IsConverted (unless_null (geometry_faults g)) (λ d s. plain_form s ≡ geometry_form g d))
 
--- ---- a feature
+-- the member `id`
+abbrev pub KnowsId : Lookup Id → Members → Type 0
+KnowsId = KnowsMember (codes "id") (IsConverted id_faults IsIdOf)
 
--- what the member `type` says, which a feature and a root have
-abbrev pub KnowsRootType : Option Root → Members → Type 0
-KnowsRootType None ms = Unit {0}
-KnowsRootType (Some r) ms = root_type (object ms) ≡ Ok r
+-- the member `properties`
+abbrev pub KnowsProps : Lookup Props → Members → Type 0
+KnowsProps = KnowsMember (codes "properties") (IsConverted properties_faults (λ d p. properties_text p ≡ properties_of d))
 
-abbrev pub KnowsShape : Transform → Option Shape → Members → Type 0
-KnowsShape g = KnowsMember (codes "geometry") (unless_null (geometry_faults g)) (λ d s. plain_form s ≡ geometry_form g d)
+-- the members of a feature other than its type
+abbrev pub KnowsParts : Transform → Lookup Shape × (Lookup Id × Lookup Props) → Members → Type 0
+KnowsParts g found ms = KnowsShape g found.0 ms × (KnowsId found.1.0 ms × KnowsProps found.1.1 ms)
 
--- the members other than the type
-abbrev pub KnowsFeature : Transform → Option Shape → Option Id → Option Props → Members → Type 0
-KnowsFeature g s i p ms = KnowsShape g s ms × (KnowsId i ms × KnowsProps p ms)
+-- the member `features`
+abbrev pub KnowsFeatures : Transform → Lookup (List Feature) → Members → Type 0
+KnowsFeatures g = KnowsMember (codes "features") (λ j fs. ArrayMeans (λ k f (a b : Unit {0}). IsConverted (element_of_features_faults g) (λ d x. plain x ≡ feature_of g d) k f) j fs tt tt)
 
--- ---- a root
+-- the members of a root other than its type
+abbrev pub KnowsRoot : Transform → Lookup (Nested Pos) × (Lookup (List Feature) × (Lookup Shape × (Lookup Id × Lookup Props))) → Members → Type 0
+KnowsRoot g found ms = KnowsCoordinates g found.0 ms × (KnowsFeatures g found.1.0 ms × KnowsParts g found.1.1 ms)
 
--- the member `features`, of the members that are read
-abbrev pub KnowsFeatures : Transform → Option (Vec Feature Global) → Members → Type 0
-KnowsFeatures g = KnowsMember (codes "features") (list_faults (element_of_features_faults g)) (λ d fs. AllZip (λ e f. plain f ≡ feature_of g e) (elements d) fs.items)
-
--- of the members that a root of this type reads; before the type is known, of those that some root reads
-abbrev pub KnowsRootParts : Transform → Option Root → Option (Vec Feature Global) → Option Shape → Option Id → Option Props → Option Coordinates → Members → Type 0
-KnowsRootParts g None fs s i p n ms = KnowsFeatures g fs ms × (KnowsFeature g s i p ms × KnowsCoordinates g n ms)
-KnowsRootParts g (Some root.Collection) fs s i p n ms = KnowsFeatures g fs ms
-KnowsRootParts g (Some root.Feature) fs s i p n ms = KnowsFeature g s i p ms
-KnowsRootParts g (Some (root.Geometry k)) fs s i p n ms = KnowsCoordinates g n ms
-
--- the members of a root that are read: its type, and the others
-abbrev pub KnowsRoot : Transform → Option Root → Option (Vec Feature Global) → Option Shape → Option Id → Option Props → Option Coordinates → Members → Type 0
-KnowsRoot g r fs s i p n ms = KnowsRootType r ms × KnowsRootParts g r fs s i p n ms
+-- the features of a text that has no fault, or that it is no JSON
+abbrev pub IsTextRead : Transform → List ℕ → TextRead (Vec Feature Global) → Type 0
+IsTextRead g bytes (text_read.Read fs) = (faults_of_text g bytes ≡ []) × (map plain fs.items ≡ features_of_text g bytes)
+IsTextRead g bytes (text_read.NotJson at) = document bytes ≡ None
+IsTextRead g bytes text_read.Over = ⊤

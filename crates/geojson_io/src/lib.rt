@@ -2,11 +2,12 @@
 #![tactic(auto)]
 
 pub mod laws;
+mod parts;
 pub mod reader;
 pub mod token_reader;
 pub mod validity;
 pub mod writer;
 
 pub use reader::read;
-pub use validity::faults;
+pub use validity::{TextFaults, faults, text_faults};
 pub use writer::write;

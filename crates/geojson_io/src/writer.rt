@@ -1,10 +1,10 @@
 //! Writing a GeoJSON FeatureCollection (RFC 7946, section 3.3), piece by piece and with no memory.
-ghost use Rattle.geojson_io.specs.CollectionText.{place_text, line_text, ring_text, closed_text, geometry_text, form_text, shape_text, feature_frame, feature_text, collection_text};
+ghost use Rattle.geojson_io.specs.CollectionText.{place_text, line_text, ring_text, closed_text, geometry_text, form_geometry, shape_text, feature_frame, feature_text, collection_text};
 ghost use Rattle.lines.specs.Seen.{positions_of, vertices_of};
 ghost use Rattle.shapes.specs.Parts.{properties_text};
 ghost use Rattle.shapes.specs.declared.feature.Feature.{Feature};
 ghost use Rattle.sinks.specs.Stops.{FailedIn};
-ghost use Rattle.sinks.specs.Texts.{after_comma, after_commas, framed, joined, list_text};
+ghost use Rattle.sinks.specs.Texts.{framed};
 ghost use Rattle.sinks.specs.Writes.{TookAll, TookPart};
 ghost use Rattle.std.specs.Borrow.{Bor};
 ghost use Rattle.std.specs.Iterator.{Drains, IsFinite};
@@ -17,9 +17,10 @@ use shapes::feature::Feature;
 use shapes::form::Form;
 use shapes::props::Props;
 use shapes::shape::{Id, Shape};
-use shapes::writing::{IdMember, Lists};
+use shapes::writing::{FormContent, IdMember, KindName};
 use sinks::written::{
-    Bracketed, Listed, Notation, Noted, Pair, PairAfterComma, Text, Then, Written, write_framed,
+    AfterComma, Bracketed, Each, Listed, Notation, Noted, OneOf, Pair, PairAfterComma, Written,
+    write_framed,
 };
 use sinks::{Sink, WriteFault};
 
@@ -34,56 +35,11 @@ impl<'a> Notation<Pos> for Places<'a> {
         let (x, y) = self.0.to_absolute(*value);
         Pair(x, y).write(sink)
     }
-}
 
-/// A position after a comma, by its absolute numbers, as one piece.
-#[derive(Clone, Copy)]
-pub struct PlaceAfterComma<'a>(pub &'a Pos, pub &'a Grid);
-
-impl<'a> Written for PlaceAfterComma<'a> {
-    ghost text = { λ p. after_comma (place_text p.1.now) p.0.now };
-
-    fn write<W: Sink>(&self, sink: &mut W) -> Result<(), WriteFault> {
-        let (x, y) = self.1.to_absolute(*self.0);
+    fn write_after_comma<W: Sink>(&self, value: &Pos, sink: &mut W) -> Result<(), WriteFault> {
+        let (x, y) = self.0.to_absolute(*value);
         PairAfterComma(x, y).write(sink)
     }
-}
-
-/// Positions by their absolute numbers, with commas between them.
-#[derive(Clone, Copy)]
-pub struct JoinedPlaces<'a>(pub &'a [Pos], pub &'a Grid);
-
-impl<'a> Written for JoinedPlaces<'a> {
-    ghost text = { λ p. joined (place_text p.1.now) p.0.now };
-
-    fn write<W: Sink>(&self, sink: &mut W) -> Result<(), WriteFault> {
-        match self.0.split_first() {
-            Some((first, others)) => match Noted(first, &Places(self.1)).write(sink) {
-                Ok(()) => write_after_commas(sink, self.1, others),
-                Err(fault) => Err(fault),
-            },
-            None => Ok(()),
-        }
-    }
-}
-
-/// Writes positions, each after a comma.
-fn write_after_commas<W: Sink>(
-    sink: &mut W,
-    grid: &Grid,
-    positions: &[Pos],
-) -> Result<(), WriteFault>
-    ensures whole { OnOk result (TookAll (W.seen sink.old) (W.seen sink.new) (after_commas (place_text grid.now) positions.now)) }
-    ensures part { OnErr result (TookPart (W.seen sink.old) (W.seen sink.new) (after_commas (place_text grid.now) positions.now)) }
-{
-    let mut left = positions;
-    while let Some((place, after)) = left.split_first() {
-        match PlaceAfterComma(place, grid).write(sink) {
-            Ok(()) => left = after,
-            Err(fault) => return Err(fault),
-        }
-    }
-    Ok(())
 }
 
 /// Lines, as lists of places.
@@ -94,7 +50,7 @@ impl<'a> Notation<Line> for LinesOn<'a> {
     ghost text = { λ lines line. line_text lines.0.now (positions_of line) };
 
     fn write_value<W: Sink>(&self, value: &Line, sink: &mut W) -> Result<(), WriteFault> {
-        Bracketed(JoinedPlaces(value.positions(), self.0)).write(sink)
+        Listed(value.positions(), &Places(self.0)).write(sink)
     }
 }
 
@@ -118,10 +74,9 @@ impl<'a> Written for Closed<'a> {
     ghost text = { λ c. closed_text c.1.now c.0.now };
 
     fn write<W: Sink>(&self, sink: &mut W) -> Result<(), WriteFault> {
+        let places = Places(self.1);
         match self.0.split_first() {
-            Some((first, _)) => {
-                Then(JoinedPlaces(self.0, self.1), PlaceAfterComma(first, self.1)).write(sink)
-            }
+            Some((first, _)) => (Each(self.0, &places), AfterComma(first, &places)).write(sink),
             None => Ok(()),
         }
     }
@@ -129,54 +84,26 @@ impl<'a> Written for Closed<'a> {
 
 /// A geometry, of its coordinates and its type's name.
 #[derive(Clone, Copy)]
-pub struct Geometry<'a, C>(pub C, pub &'a [u8]);
+pub struct Geometry<C, N>(pub C, pub N);
 
-impl<'a, C: Written> Written for Geometry<'a, C> {
-    ghost text = { λ g. geometry_text (C.text g.0) g.1.now };
+impl<C: Written, N: Written> Written for Geometry<C, N> {
+    ghost text = { λ g. geometry_text (C.text g.0) (N.text g.1) };
 
     fn write<W: Sink>(&self, sink: &mut W) -> Result<(), WriteFault> {
-        let name = Then(Text(b",\"type\":\""), Then(Text(self.1), Text(b"\"}")));
-        Then(Text(b"{\"coordinates\":"), Then(&self.0, name)).write(sink)
+        ("{\"coordinates\":", &self.0, ",\"type\":\"", &self.1, "\"}").write(sink)
     }
 }
 
-/// Geometries, or `null`. Positions, lines and rings are each in a notation.
+/// Geometries, or `null`, by a notation of their coordinates.
 #[derive(Clone, Copy)]
-pub struct FormNotation<P, L, R> {
-    pub places: P,
-    pub lines: L,
-    pub rings: R,
-}
+pub struct FormNotation<C>(pub C);
 
-impl<K, Q, P: Notation<Pos>, L: Notation<K>, R: Notation<Q> + Copy> Notation<Form<K, Q>>
-    for FormNotation<P, L, R> {
-    ghost text = { λ g form. form_text (P.text g.places) (L.text g.lines) (R.text g.rings) form };
+impl<K, Q, C: Notation<Form<K, Q>>> Notation<Form<K, Q>> for FormNotation<C> {
+    ghost text = { λ g form. form_geometry (C.text g.0 form) form };
 
     fn write_value<W: Sink>(&self, value: &Form<K, Q>, sink: &mut W) -> Result<(), WriteFault> {
-        match value {
-            Form::Null => Text(b"null").write(sink),
-            Form::Point(place) => Geometry(Noted(place, &self.places), b"Point").write(sink),
-            Form::MultiPoint(places) => Geometry(
-                Listed(places.as_slice(), &self.places),
-                b"MultiPoint",
-            ).write(sink),
-            Form::Line(line) => Geometry(Noted(line, &self.lines), b"LineString").write(sink),
-            Form::MultiLine(lines) => Geometry(
-                Listed(lines.as_slice(), &self.lines),
-                b"MultiLineString",
-            ).write(sink),
-            Form::Polygon(rings) => Geometry(
-                Listed(rings.as_slice(), &self.rings),
-                b"Polygon",
-            ).write(sink),
-            Form::MultiPolygon(polygons) => {
-                Geometry(
-                    Listed(polygons.as_slice(), &Lists(self.rings)),
-                    b"MultiPolygon",
-                )
-                .write(sink)
-            }
-        }
+        let geometry = Geometry(Noted(value, &self.0), KindName(value));
+        OneOf(value.is_null(), "null", geometry).write(sink)
     }
 }
 
@@ -188,12 +115,12 @@ impl<'a> Notation<Shape> for ShapesOn<'a> {
     ghost text = { λ shapes shape. shape_text shapes.0.now shape };
 
     fn write_value<W: Sink>(&self, value: &Shape, sink: &mut W) -> Result<(), WriteFault> {
-        FormNotation {
+        let coordinates = FormContent {
             places: Places(self.0),
             lines: LinesOn(self.0),
             rings: RingsOn(self.0),
-        }
-        .write_value(value, sink)
+        };
+        FormNotation(coordinates).write_value(value, sink)
     }
 }
 
@@ -209,13 +136,15 @@ impl<'a, G: Written> Written for FeatureOf<'a, G> {
     ghost text = { λ f. feature_frame f.id.now (properties_text f.props.now) (G.text f.geometry) };
 
     fn write<W: Sink>(&self, sink: &mut W) -> Result<(), WriteFault> {
-        let properties = Text(self.props.text().as_bytes());
-        let tail = Then(
-            Text(b"\"properties\":"),
-            Then(properties, Text(b",\"type\":\"Feature\"}")),
-        );
-        let id = Then(Text(b","), Then(IdMember(self.id), tail));
-        Then(Text(b"{\"geometry\":"), Then(&self.geometry, id)).write(sink)
+        let properties = ("\"properties\":", self.props, ",\"type\":\"Feature\"}");
+        (
+            "{\"geometry\":",
+            &self.geometry,
+            ",",
+            IdMember(self.id),
+            properties,
+        )
+            .write(sink)
     }
 }
 

@@ -10,7 +10,7 @@ use Rattle.shapes.specs.Maps.{Layers}
 use Rattle.reading.specs.Fault.{LeastOrWant}
 use Rattle.reading.proofs.FirstRefused.{first_refused}
 use Rattle.topo_io.specs.Means.{Means}
-use Rattle.topo_io.specs.Roots.{faults_of_text, grid_of_text}
+use Rattle.topo_text.specs.Roots.{faults_of_text, grid_of_text}
 use Rattle.merging.specs.Meaning.{same_grid}
 use Rattle.merging.specs.declared.fault.MergeFault.{MergeFault}
 use Rattle.merging.specs.declared.fault.MergeFault.TheVariants.{BadPlan, Text, OtherGrid, OutOfMemory}

@@ -15,7 +15,7 @@ use Rattle.topo.proofs.TopologyLaws.{has_topology}
 use Rattle.topo.specs.OfMap.{the_topology}
 use Rattle.topo_io.specs.Canon.{canon}
 use Rattle.topo_io.specs.Means.{Means}
-use Rattle.topo_io.specs.Roots.{layers_of_text}
+use Rattle.topo_text.specs.Roots.{layers_of_text}
 use Rattle.reading.proofs.Plains.{layers_once}
 use Rattle.merging.specs.declared.plan.Plan.{Plan}
 use Rattle.merging.specs.Leaves.{leaves, first_outside}

@@ -18,7 +18,7 @@ use Rattle.merging.specs.Leaves.{first_outside}
 use Rattle.merging.specs.Plans.{first_other, union_at}
 use Rattle.topo_io.specs.Canon.{canon}
 use Rattle.topo_io.specs.Means.{Means}
-use Rattle.topo_io.specs.Roots.{faults_of_text, grid_of_text}
+use Rattle.topo_text.specs.Roots.{faults_of_text, grid_of_text}
 
 -- the bytes of each text
 abbrev pub bytes_of : List (Vec ℕ Global) → List (List ℕ)

@@ -10,7 +10,7 @@ ghost use Rattle.shapes.specs.Union.{union};
 ghost use Rattle.std.specs.Prelude.{◌≡◌, ◌↔◌, [], IfErr, IfOk, IsErrOf, OnOk};
 ghost use Rattle.topo_io.specs.Canon.{canon};
 ghost use Rattle.topo_io.specs.Means.{Means};
-ghost use Rattle.topo_io.specs.Roots.{faults_of_text};
+ghost use Rattle.topo_text.specs.Roots.{faults_of_text};
 
 use crate::fault::JoinFault;
 use faults::{Fault, FaultKind, OutOfMemory};

@@ -8,7 +8,7 @@ use Rattle.topo.specs.OfMap.{IsOf, seen_parts}
 use Rattle.topo.specs.Parts.{TopologyParts}
 use Rattle.topo_io.specs.Canon.{canon}
 use Rattle.topo_io.specs.Means.{Means, MeansTopology}
-use Rattle.topo_io.specs.Roots.{grid_of_text}
+use Rattle.topo_text.specs.Roots.{grid_of_text}
 use Rattle.topo_io.specs.TopologyText.{topology_text}
 use Rattle.noshinka.specs.Answers.{IsRemoval, IsTextWithout}
 use Rattle.c_calls.specs.Why.{IsOtherGrid, IsRemoveRefusal, IsTextRefusal}

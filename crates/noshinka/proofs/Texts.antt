@@ -9,7 +9,7 @@ use Rattle.reading.specs.Fault.{LeastOrWant}
 use Rattle.shapes.specs.Maps.{Layers}
 use Rattle.topo.specs.Parts.{TopologyParts}
 use Rattle.topo_io.specs.Means.{MeansTopology}
-use Rattle.topo_io.specs.Roots.{faults_of_text}
+use Rattle.topo_text.specs.Roots.{faults_of_text}
 use Rattle.noshinka.specs.Answers.{HasScope, IsCollectionText, IsFeatureText, IsInfoAnswer}
 use Rattle.c_calls.specs.Why.{IsFaultAt, IsTextRefusal}
 use Rattle.c_calls.specs.declared.refusal.CallRefusal.{CallRefusal}

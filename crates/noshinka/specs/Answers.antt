@@ -11,7 +11,7 @@ use Rattle.topo.specs.OfMap.{IsOf}
 use Rattle.topo.specs.Parts.{TopologyParts}
 use Rattle.topo_io.specs.Canon.{canon}
 use Rattle.topo_io.specs.Means.{Means, MeansTopology}
-use Rattle.topo_io.specs.Roots.{faults_of_text}
+use Rattle.topo_text.specs.Roots.{faults_of_text}
 
 -- the text is accepted, and it is the canonical text of what it means
 pub record IsCanonical (text : List ℕ) : Type 0 where

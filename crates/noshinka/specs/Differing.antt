@@ -7,7 +7,7 @@ use Rattle.shapes.specs.Maps.{Layers}
 use Rattle.topo.specs.OfMap.{IsOf}
 use Rattle.topo.specs.Parts.{TopologyParts}
 use Rattle.topo_io.specs.Means.{Means, MeansTopology}
-use Rattle.topo_io.specs.Roots.{grid_of_text}
+use Rattle.topo_text.specs.Roots.{grid_of_text}
 use Rattle.c_calls.specs.Options.{scope_of}
 use Rattle.c_calls.specs.Why.{IsChoiceRefusal, IsScopeRefusal, IsTextRefusal}
 use Rattle.noshinka.specs.declared.differing.DiffOptions.{DiffOptions}

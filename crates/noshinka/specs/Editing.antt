@@ -10,7 +10,7 @@ use Rattle.topo.specs.OfMap.{IsOf}
 use Rattle.topo.specs.Parts.{TopologyParts}
 use Rattle.topo_io.specs.Canon.{canon}
 use Rattle.topo_io.specs.Means.{Means}
-use Rattle.topo_io.specs.Roots.{grid_of_text}
+use Rattle.topo_text.specs.Roots.{grid_of_text}
 use Rattle.c_calls.specs.Why.{IsChoiceRefusal, IsTextRefusal}
 use Rattle.noshinka.specs.declared.editing.Change.{Change}
 use Rattle.c_calls.specs.declared.refusal.CallRefusal.{CallRefusal}

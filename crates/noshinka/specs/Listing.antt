@@ -9,7 +9,7 @@ use Rattle.fault_reports.specs.declared.features.Format.{Format}
 use Rattle.fault_reports.specs.declared.features.Format.TheVariants.{GeoJson, Topology}
 use Rattle.fault_reports.specs.declared.report.FaultReport.{FaultReport}
 use Rattle.reading.specs.FaultLists.Found.{pairs_of}
-use Rattle.topo_io.specs.Roots.{faults_of_text}
+use Rattle.topo_text.specs.Roots.{faults_of_text}
 use Rattle.c_calls.specs.Why.{IsChoiceRefusal}
 use Rattle.c_calls.specs.declared.refusal.CallRefusal.{CallRefusal}
 use Rattle.c_calls.specs.declared.refusal.CallRefusal.TheVariants.{BadGrid, OutOfMemory}

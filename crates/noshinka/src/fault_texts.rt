@@ -3,30 +3,17 @@ ghost use Rattle.c_calls.specs.Borrowed.{grid_of};
 ghost use Rattle.noshinka.specs.Listing.{IsFaultText, IsFaultsAnswer, IsFormatRefusal, IsGridRefusal, IsListRefusal, faults_as, format_of};
 ghost use Rattle.reading.specs.FaultLists.Found.{pairs_of};
 ghost use Rattle.geojson_io.specs.Features.{faults_of_text as geojson_faults};
-ghost use Rattle.fault_reports.specs.FaultReports.{array_text};
 ghost use Rattle.fault_reports.specs.declared.features.Format.TheVariants.{GeoJson, Topology};
-ghost use Rattle.std.specs.Prelude.{◌≡◌, IfErr, IfOk};
-ghost use Rattle.topo_io.specs.Roots.{faults_of_text};
+ghost use Rattle.std.specs.Prelude.{IfErr, IfOk};
+ghost use Rattle.topo_text.specs.Roots.{faults_of_text};
 
 use c_calls::borrowed::{GridNumbers, grid_within};
 use c_calls::options::flag;
 use c_calls::refusal::CallRefusal;
-use fault_reports::{FaultReport, Format, ReportArray, reports};
+use fault_reports::{Format, ReportArray, reports};
 use faults::{Fault, OutOfMemory};
-use sinks::Kept;
-use sinks::written::Written;
+use sinks::to_bytes;
 use std::alloc::Global;
-
-/// The text of reports, as a JSON array.
-fn text_of_reports(alloc: Global, reports: &[FaultReport]) -> Result<Vec<u8>, OutOfMemory>
-    ensures { IfOk result (λ t. t.items ≡ array_text reports.now) }
-{
-    let mut kept = Kept::new(alloc);
-    match ReportArray(reports).write(&mut kept) {
-        Ok(()) => Ok(kept.into_bytes()),
-        Err(_) => Err(OutOfMemory),
-    }
-}
 
 /// The text of the reports of a text's faults.
 fn text_of_faults(
@@ -38,7 +25,7 @@ fn text_of_faults(
     ensures { IfOk result (λ t. IsFaultText format text.now (pairs_of faults.items) t.items) }
 {
     let reports = reports(alloc, format, text, faults)?;
-    text_of_reports(alloc, reports.as_slice())
+    to_bytes(alloc, &ReportArray(reports.as_slice()))
 }
 
 /// The faults of a topology's text.

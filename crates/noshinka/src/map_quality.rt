@@ -2,15 +2,12 @@
 ghost use Rattle.c_calls.specs.Ends.{Says};
 ghost use Rattle.noshinka.specs.Answers.{IsCanonical, IsNotCanonical};
 ghost use Rattle.noshinka.specs.Quality.{IsQualityAnswer, IsQualityRefusal, are_quality_options, steps_of, tests_of};
-ghost use Rattle.report_texts.specs.QualityText.{IsQualityText};
 ghost use Rattle.std.specs.Prelude.{◌≡◌, IfErr, IfOk};
 ghost use Rattle.topo_io.specs.Means.{MeansTopology};
 
 use crate::topologies::topology_of;
 use c_calls::refusal::CallRefusal;
-use faults::OutOfMemory;
-use report_texts::{QualityTests, write_quality};
-use sinks::Kept;
+use report_texts::{QualityTests, quality_text};
 use std::alloc::Global;
 use topo::Topology;
 
@@ -65,20 +62,6 @@ fn is_canonical_text(topology: &Topology, text: &[u8]) -> bool
     topo_io::is_text_of(topology, text)
 }
 
-/// The text of what the tests find.
-fn text_of_tests(
-    alloc: Global,
-    topology: &Topology,
-    is_canonical: bool,
-    tests: &QualityTests,
-) -> Result<Vec<u8>, OutOfMemory>
-    ensures { IfOk result (λ t. IsQualityText tests.now is_canonical topology.now t.items) }
-{
-    let mut kept = Kept::new(alloc);
-    write_quality(alloc, topology, is_canonical, tests, &mut kept)?;
-    Ok(kept.into_bytes())
-}
-
 /// Whether a topology's text is canonical, and what the tests find that the options ask for.
 #[tactic(auto, using(crate::proofs::Qualities::quality_choice, crate::proofs::Qualities::quality_text, crate::proofs::Qualities::quality_memory, crate::proofs::Qualities::quality_made))]
 pub(crate) fn quality(
@@ -94,5 +77,5 @@ pub(crate) fn quality(
     }
     let topology = topology_of(alloc, 0, text)?;
     let is_canonical = is_canonical_text(&topology, text);
-    Ok(text_of_tests(alloc, &topology, is_canonical, &tests_of(options))?)
+    Ok(quality_text(alloc, &topology, is_canonical, &tests_of(options))?)
 }

@@ -2,17 +2,13 @@
 ghost use Rattle.noshinka.specs.Answers.{IsCollectionText, IsFeatureText, IsInfoAnswer};
 ghost use Rattle.noshinka.specs.Asking.{AreAskedBorders, AreAskedNeighbors, AreWithIds, IsBordersText, IsIdsRefusal, IsListsRefusal, IsListsText, IsMeshRefusal, IsMeshText, IsNeighborsAnswer, IsNeighborsRefusal, are_neighbors_options, ids_text};
 ghost use Rattle.c_calls.specs.Why.{IsLayerRefusal, IsQuestionRefusal};
-ghost use Rattle.query.specs.AnswerTexts.{neighbor_ids_text, neighbors_text};
-ghost use Rattle.query.specs.Keyed.{keyed_text};
 ghost use Rattle.query.specs.Mesh.{IsMissing};
 ghost use Rattle.query.specs.declared.fault.QueryFault.TheVariants.{NoLayer as MissingLayer};
-ghost use Rattle.outputs.specs.InfoText.{info_text};
 ghost use Rattle.shapes.specs.Maps.{features_at};
 ghost use Rattle.shapes.specs.Sets as set;
-ghost use Rattle.sinks.specs.Writes.{TookAll, TookPart};
 ghost use Rattle.std.specs.FinMap as layers;
 ghost use Rattle.std.specs.Option.{option_map};
-ghost use Rattle.std.specs.Prelude.{◌≡◌, ◌↔◌, ◌≤◌, Err, IfErr, IfOk, IsTrue, OnErr, OnOk, Some, None, map};
+ghost use Rattle.std.specs.Prelude.{◌≡◌, ◌↔◌, ◌≤◌, Err, IfErr, IfOk, IsTrue, Some, None, map};
 ghost use Rattle.topo.specs.ItsMap.{ForItsMap};
 
 use crate::keys::is_key_twice;
@@ -22,13 +18,12 @@ use c_calls::options::{edges_named, flag, is_id_missing, name_if, scope_named};
 use c_calls::refusal::CallRefusal;
 use chains::ArcTable;
 use faults::OutOfMemory;
-use outputs::info_text::{write_json, write_lines};
+use outputs::info_text::InfoText;
 use query::{
-    Edges, LayerFault, QueryFault, borders, borders_by, neighbors as lists_of_neighbors,
-    neighbors_by, write_layer, write_mesh, write_neighbor_ids, write_neighbors,
-    write_neighbors_keyed,
+    Edges, KeyedText, LayerFault, MeshText, NeighborIdsText, NeighborsText, QueryFault, borders,
+    borders_by, neighbors as lists_of_neighbors, neighbors_by, write_layer,
 };
-use sinks::{Kept, Sink, WriteFault};
+use sinks::{Kept, to_bytes};
 use std::alloc::Global;
 use topo::{Geom, Topology};
 
@@ -99,11 +94,7 @@ fn text_of_borders(
     ensures refused { IfErr result (IsLayerRefusal topology.now (option_map (λ n. n.now) layer.entry)) }
 {
     let lines = lines_asked(alloc, topology, layer, by, edges)?;
-    let mut kept = Kept::new(alloc);
-    match write_mesh(&topology.grid(), &lines, &mut kept) {
-        Ok(()) => Ok(kept.into_bytes()),
-        Err(_) => Err(CallRefusal::OutOfMemory),
-    }
+    Ok(to_bytes(alloc, &MeshText(&topology.grid(), &lines))?)
 }
 
 /// The borders of a layer of a topology's text, or of all layers, as a GeoJSON MultiLineString.
@@ -124,47 +115,6 @@ pub(crate) fn mesh(
     let by = name_if(options.edges == 3, options.property)?;
     let topology = topology_of(alloc, 0, text)?;
     text_of_borders(alloc, &topology, layer, by, edges)
-}
-
-/// The text of lists of places.
-fn text_of_lists(alloc: Global, lists: &[Vec<usize>]) -> Result<Vec<u8>, OutOfMemory>
-    ensures { IfOk result (λ t. t.items ≡ neighbors_text (map (λ l. l.items) lists.now)) }
-{
-    let mut kept = Kept::new(alloc);
-    match write_neighbors(lists, &mut kept) {
-        Ok(()) => Ok(kept.into_bytes()),
-        Err(_) => Err(OutOfMemory),
-    }
-}
-
-/// The text of lists of places, with the ids of the geometries in place of their places.
-fn text_of_id_lists(
-    alloc: Global,
-    geometries: &[Geom],
-    lists: &[Vec<usize>],
-) -> Result<Vec<u8>, OutOfMemory>
-    ensures { IfOk result (λ t. t.items ≡ neighbor_ids_text geometries.now (map (λ l. l.items) lists.now)) }
-{
-    let mut kept = Kept::new(alloc);
-    match write_neighbor_ids(geometries, lists, &mut kept) {
-        Ok(()) => Ok(kept.into_bytes()),
-        Err(_) => Err(OutOfMemory),
-    }
-}
-
-/// The text of lists of places as an object, from the id of each geometry to those at its places.
-fn text_of_keyed_lists(
-    alloc: Global,
-    geometries: &[Geom],
-    lists: &[Vec<usize>],
-) -> Result<Vec<u8>, OutOfMemory>
-    ensures { IfOk result (λ t. t.items ≡ keyed_text geometries.now (map (λ l. l.items) lists.now)) }
-{
-    let mut kept = Kept::new(alloc);
-    match write_neighbors_keyed(geometries, lists, &mut kept) {
-        Ok(()) => Ok(kept.into_bytes()),
-        Err(_) => Err(OutOfMemory),
-    }
 }
 
 /// The options of `noshinka_neighbors`. `c/noshinka.h` says what each means.
@@ -236,9 +186,9 @@ fn text_by_ids(
     ensures { IfOk result (λ t. t.items ≡ ids_text is_keyed geometries.now (map (λ l. l.items) lists.now)) }
 {
     if is_keyed {
-        text_of_keyed_lists(alloc, geometries, lists)
+        to_bytes(alloc, &KeyedText(geometries, lists))
     } else {
-        text_of_id_lists(alloc, geometries, lists)
+        to_bytes(alloc, &NeighborIdsText(geometries, lists))
     }
 }
 
@@ -256,7 +206,7 @@ fn text_of_neighbors(
 {
     let lists = neighbors_asked(alloc, topology, layer, by)?;
     if form == 0 {
-        return Ok(text_of_lists(alloc, lists.as_slice())?);
+        return Ok(to_bytes(alloc, &NeighborsText(lists.as_slice()))?);
     }
     let is_keyed = form == 2;
     let geometries = geometries_with_ids(alloc, topology, layer, is_keyed)?;
@@ -291,28 +241,5 @@ pub(crate) fn info(alloc: Global, text: &[u8], json: u32) -> Result<Vec<u8>, Cal
 {
     let is_json = flag(json)?;
     let topology = topology_of(alloc, 0, text)?;
-    Ok(text_of_info(alloc, &topology, is_json)?)
-}
-
-/// The text of what a topology is made of.
-fn text_of_info(alloc: Global, topology: &Topology, is_json: bool) -> Result<Vec<u8>, OutOfMemory>
-    ensures { IfOk result (λ t. t.items ≡ info_text is_json topology.now) }
-{
-    let mut kept = Kept::new(alloc);
-    match write_info(topology, is_json, &mut kept) {
-        Ok(()) => Ok(kept.into_bytes()),
-        Err(_) => Err(OutOfMemory),
-    }
-}
-
-/// Writes what a topology is made of.
-fn write_info<W: Sink>(topology: &Topology, is_json: bool, sink: &mut W) -> Result<(), WriteFault>
-    ensures whole { OnOk result (TookAll (W.seen sink.old) (W.seen sink.new) (info_text is_json topology.now)) }
-    ensures part { OnErr result (TookPart (W.seen sink.old) (W.seen sink.new) (info_text is_json topology.now)) }
-{
-    if is_json {
-        write_json(topology, sink)
-    } else {
-        write_lines(topology, sink)
-    }
+    Ok(to_bytes(alloc, &InfoText(&topology, is_json))?)
 }

@@ -1,70 +1,21 @@
 //! From texts in decimal numbers to the topology or the features of what they are rounded to.
 ghost use Rattle.c_calls.specs.Borrowed.{borrowed_sources};
 ghost use Rattle.noshinka.specs.Rounding.{IsFilesRefusal, IsMade, IsRoundAnswer, IsRoundRefusal, IsSourcesRefusal, features_in, files_as, names_in};
-ghost use Rattle.report_texts.specs.ReportText.{report_if};
 ghost use Rattle.outputs.specs.BuiltText.Maps.{borrowed_texts};
 ghost use Rattle.rounded_maps.specs.Files.{file_of, files_of};
-ghost use Rattle.rounded_maps.specs.Written.{map_text};
-ghost use Rattle.std.specs.Prelude.{◌≡◌, ◌++◌, IfErr, IfOk, false, map, nat_eq, true};
-ghost use Rattle.topo.specs.OfMap.{seen_parts};
-ghost use Rattle.topo_io.specs.TopologyText.{topology_text};
+ghost use Rattle.std.specs.Prelude.{◌≡◌, IfErr, IfOk, false, map, nat_eq, true};
 
 use crate::round_options::{RoundOptions, are_options};
 use crate::rules::{names_of, rules_of, units_of};
 use c_calls::borrowed::{SourceText, borrow_sources};
 use c_calls::refusal::CallRefusal;
 use faults::OutOfMemory;
-use grid::Grid;
-use report_texts::write_report;
+use report_texts::text_with_report;
 use rounded_maps::{
-    BuildRules, Rounded, RoundedFeature, RoundedMap, Source, build_maps, round_maps,
-    write_collection,
+    BuildRules, CollectionText, Rounded, RoundedFeature, RoundedMap, Source, build_maps, round_maps,
 };
-use sinks::written::Written;
-use sinks::{Kept, Sink, WriteFault};
 use std::alloc::Global;
-use topo::Topology;
-
-/// A topology as its canonical text.
-#[derive(Clone, Copy)]
-struct CanonicalText<'a>(&'a Topology);
-
-impl<'a> Written for CanonicalText<'a> {
-    ghost text = { λ t. topology_text (seen_parts t.0.now) };
-
-    fn write<W: Sink>(&self, sink: &mut W) -> Result<(), WriteFault> {
-        topo_io::write(self.0, sink)
-    }
-}
-
-/// Features as a FeatureCollection, in the absolute numbers of a grid.
-#[derive(Clone, Copy)]
-struct CollectionText<'a>(&'a [RoundedFeature], &'a Grid);
-
-impl<'a> Written for CollectionText<'a> {
-    ghost text = { λ c. map_text c.1.now c.0.now };
-
-    fn write<W: Sink>(&self, sink: &mut W) -> Result<(), WriteFault> {
-        write_collection(self.0, self.1, sink)
-    }
-}
-
-/// The report, where it is asked for, and then a text.
-fn text_with_report<T: Written>(
-    alloc: Global,
-    reports: bool,
-    rounded: &Rounded,
-    body: &T,
-) -> Result<Vec<u8>, OutOfMemory>
-    ensures { IfOk result (λ t. t.items ≡ report_if reports rounded.now ++ T.text body.now) }
-{
-    let mut kept = Kept::new(alloc);
-    write_report(alloc, reports, rounded, &mut kept)?;
-    match body.write(&mut kept) {
-        Ok(()) => Ok(kept.into_bytes()),
-        Err(_) => Err(OutOfMemory),
-    }
-}
+use topo_io::Canonical;
 
 /// The features of maps, one behind another.
 fn all_features(alloc: Global, maps: Vec<RoundedMap>) -> Result<Vec<RoundedFeature>, OutOfMemory>
@@ -112,7 +63,7 @@ fn topology_text_of(
     ensures refused { IfErr result (IsFilesRefusal rules.now (files_of (λ b. b.now) files.entry.items)) }
 {
     let (topology, rounded) = build_maps(alloc, names, files, rules)?;
-    let body = CanonicalText(&topology);
+    let body = Canonical(&topology);
     Ok(text_with_report(alloc, reports, &rounded, &body)?)
 }
 

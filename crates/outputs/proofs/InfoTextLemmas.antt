@@ -1,37 +1,34 @@
 -- The texts of what a topology is made of, as they are written.
 use Rattle.std.proofs.Common.{◌≡◌, ℕ, ℤ, Bool, List, ◌++◌, ap, ◌∙◌, codes, decimal, length, Option}
-use Rattle.std.specs.Prelude.{cond, map as map_list, nat_eq, sum}
+use Rattle.std.specs.Prelude.{map as map_list, sum}
 use Rattle.grid.specs.Place.{Transform}
 use Rattle.query.specs.Info.{free_count, kinds_of}
 use Rattle.query.specs.declared.info.Kinds.{Kinds}
 use Rattle.shapes.specs.Parts.{spelled_text}
 use Rattle.shapes.specs.Spelling.{spelling_of}
 use Rattle.shapes.specs.declared.spelled.Spelled.{Spelled}
-use Rattle.sinks.specs.Texts.{joined}
+use Rattle.sinks.specs.Texts.{counted_text, each_text, joined}
 use Rattle.topo.specs.Parts.{Corners, LayerParts, TopologyParts}
 use Rattle.topo.specs.declared.geom.Geom.{Geom}
 use Rattle.outputs.specs.InfoText.{arc_lines, arc_members, grid_lines, info_json, info_lines, kinds_line, kinds_members, layer_line, layer_object, scales_of, transform_member, translations_of}
-use Rattle.text_parts.specs.TextParts.{each_text}
 
 -- a layer's line, of its name, its geometries and how many there are
-pub layer_line_is : (l : LayerParts) {n m : List ℕ} {s : Spelled} {gs : List Geom} {k : ℕ} {kinds : Kinds} → n ≡ m → m ≡ spelling_of (spelled_text s) → s ≡ l.name → gs ≡ l.geometries
+pub layer_line_is : (l : LayerParts) {s : Spelled} {gs : List Geom} {k : ℕ} {kinds : Kinds} → s ≡ l.name → gs ≡ l.geometries
     → k ≡ length gs → kinds ≡ kinds_of gs
-    → codes "layer " ++ (n ++ (codes ": " ++ ((decimal k ++ cond (nat_eq k 1) (codes " feature") (codes " features")) ++ (kinds_line kinds ++ codes "\n")))) ≡ layer_line l
-layer_line_is l {n} {m} {s} {gs} {k} {kinds} bytes spelled name e count counted =
-    let named : n ≡ spelling_of (spelled_text l.name) = bytes ∙ spelled ∙ ap (λ x. spelling_of (spelled_text x)) name in
+    → codes "layer " ++ (spelling_of (spelled_text s) ++ (codes ": " ++ (counted_text k (codes " feature") (codes " features") ++ (kinds_line kinds ++ codes "\n")))) ≡ layer_line l
+layer_line_is l {s} {gs} {k} {kinds} name e count counted =
     let many : k ≡ length l.geometries = count ∙ ap length e in
     let kinded : kinds ≡ kinds_of l.geometries = counted ∙ ap kinds_of e in
-    λ i. codes "layer " ++ (named i ++ (codes ": " ++ ((decimal (many i) ++ cond (nat_eq (many i) 1) (codes " feature") (codes " features")) ++ (kinds_line (kinded i) ++ codes "\n"))))
+    λ i. codes "layer " ++ (spelling_of (spelled_text (name i)) ++ (codes ": " ++ (counted_text (many i) (codes " feature") (codes " features") ++ (kinds_line (kinded i) ++ codes "\n"))))
 
 -- and its object
-pub layer_object_is : (l : LayerParts) {n m : List ℕ} {s : Spelled} {gs : List Geom} {k : ℕ} {kinds : Kinds} → n ≡ m → m ≡ spelling_of (spelled_text s) → s ≡ l.name → gs ≡ l.geometries
+pub layer_object_is : (l : LayerParts) {s : Spelled} {gs : List Geom} {k : ℕ} {kinds : Kinds} → s ≡ l.name → gs ≡ l.geometries
     → k ≡ length gs → kinds ≡ kinds_of gs
-    → (codes "{\"features\":" ++ decimal k) ++ (codes ",\"kinds\":{" ++ (kinds_members kinds ++ (codes "},\"name\":" ++ (n ++ codes "}")))) ≡ layer_object l
-layer_object_is l {n} {m} {s} {gs} {k} {kinds} bytes spelled name e count counted =
-    let named : n ≡ spelling_of (spelled_text l.name) = bytes ∙ spelled ∙ ap (λ x. spelling_of (spelled_text x)) name in
+    → (codes "{\"features\":" ++ decimal k) ++ (codes ",\"kinds\":{" ++ (kinds_members kinds ++ (codes "},\"name\":" ++ (spelling_of (spelled_text s) ++ codes "}")))) ≡ layer_object l
+layer_object_is l {s} {gs} {k} {kinds} name e count counted =
     let many : k ≡ length l.geometries = count ∙ ap length e in
     let kinded : kinds ≡ kinds_of l.geometries = counted ∙ ap kinds_of e in
-    λ i. (codes "{\"features\":" ++ decimal (many i)) ++ (codes ",\"kinds\":{" ++ (kinds_members (kinded i) ++ (codes "},\"name\":" ++ (named i ++ codes "}"))))
+    λ i. (codes "{\"features\":" ++ decimal (many i)) ++ (codes ",\"kinds\":{" ++ (kinds_members (kinded i) ++ (codes "},\"name\":" ++ (spelling_of (spelled_text (name i)) ++ codes "}"))))
 
 -- the lines of a topology, of its parts and counts
 pub lines_is : (t : TopologyParts) {g : Transform} {s d : ℤ × ℤ} {b : Option Corners} {a p f : ℕ} {ls : List LayerParts} → g ≡ t.grid → s ≡ scales_of g → d ≡ translations_of g → b ≡ t.bbox

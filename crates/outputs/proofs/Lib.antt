@@ -1,2 +1,3 @@
 pub mod BuiltTextLemmas
 pub mod InfoTextLemmas
+pub mod CheckTextLemmas

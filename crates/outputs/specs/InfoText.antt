@@ -1,14 +1,18 @@
 -- What a topology is made of, as lines and as a JSON object.
-use Rattle.std.specs.Prelude.{ℕ, ℤ, Bool, true, false, List, [], ◌++◌, None, Option, Some, codes, cond, decimal, length, map as map_list, nat_eq, nat_lt, sum}
+use Rattle.std.specs.Fmt.{signed_decimal}
+use Rattle.std.specs.Prelude.{ℕ, ℤ, Bool, true, false, List, [], ◌++◌, None, Option, Some, codes, cond, decimal, length, map as map_list, nat_lt, sum}
 use Rattle.arcs.specs.Arcs.{Arcs}
 use Rattle.grid.specs.Place.{Transform}
 use Rattle.query.specs.Info.{free_count, kinds_of}
 use Rattle.query.specs.declared.info.Kinds.{Kinds}
 use Rattle.shapes.specs.Parts.{spelled_text}
 use Rattle.shapes.specs.Spelling.{spelling_of}
-use Rattle.sinks.specs.Texts.{joined}
+use Rattle.sinks.specs.Texts.{counted_text, each_text, joined}
 use Rattle.topo.specs.Parts.{Corners, LayerParts, TopologyParts}
-use Rattle.text_parts.specs.TextParts.{each_text, number_pair}
+
+-- two numbers with a comma between them
+abbrev pub number_pair : ℤ × ℤ → List ℕ
+number_pair p = signed_decimal p.0 ++ (codes "," ++ signed_decimal p.1)
 
 -- two pairs of numbers with a comma between them
 abbrev pub pairs_text : ℤ × ℤ → ℤ × ℤ → List ℕ
@@ -50,13 +54,9 @@ kinds_line k = kind_part (codes "LineString") k.lines ++ (kind_part (codes "Mult
     ++ (kind_part (codes "MultiPoint") k.multi_points ++ (kind_part (codes "MultiPolygon") k.multi_polygons
     ++ (kind_part (codes "Point") k.points ++ (kind_part (codes "Polygon") k.polygons ++ kind_part (codes "null") k.nulls)))))
 
--- how many features a layer has
-abbrev pub features_text : ℕ → List ℕ
-features_text n = decimal n ++ cond (nat_eq n 1) (codes " feature") (codes " features")
-
 -- a layer's name in quotes, how many features it has, and how many of each kind that is there
 abbrev pub layer_line : LayerParts → List ℕ
-layer_line l = codes "layer " ++ (spelling_of (spelled_text l.name) ++ (codes ": " ++ (features_text (length l.geometries) ++ (kinds_line (kinds_of l.geometries) ++ codes "\n"))))
+layer_line l = codes "layer " ++ (spelling_of (spelled_text l.name) ++ (codes ": " ++ (counted_text (length l.geometries) (codes " feature") (codes " features") ++ (kinds_line (kinds_of l.geometries) ++ codes "\n"))))
 
 -- a line for each fact
 abbrev pub info_lines : TopologyParts → List ℕ

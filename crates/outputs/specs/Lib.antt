@@ -1,2 +1,3 @@
 pub mod BuiltText
 pub mod InfoText
+pub mod CheckText

@@ -1,13 +1,10 @@
 -- The texts of meshes and of neighbours.
 use Rattle.std.specs.Prelude.{ℕ, List, Option, Some, None, codes, slice_get}
-use Rattle.std.specs.Fmt.{decimal, signed_decimal}
+use Rattle.std.specs.Fmt.{decimal}
 use Rattle.grid.specs.Place.{Transform}
 use Rattle.grid.specs.declared.pos.Pos.{Pos}
 use Rattle.geojson_io.specs.CollectionText.{line_text, geometry_text}
-use Rattle.shapes.specs.Parts.{spelled_text}
-use Rattle.shapes.specs.Spelling.{spelling_of}
-use Rattle.shapes.specs.declared.shape.Id.{Id}
-use Rattle.shapes.specs.declared.shape.Id.TheVariants as id
+use Rattle.shapes.specs.Writing.Members.{id_value_text}
 use Rattle.sinks.specs.Texts.{list_text}
 use Rattle.topo.specs.declared.geom.Geom.{Geom}
 
@@ -18,12 +15,6 @@ mesh_text t lines = geometry_text (list_text (line_text t) lines) (codes "MultiL
 -- lists of numbers, each in decimal [RFC 8259; topojson-client (neighbors)]
 abbrev pub neighbors_text : List (List ℕ) → List ℕ
 neighbors_text lists = list_text (list_text decimal) lists
-
--- an id as a JSON value, null where there is none [RFC 8259; own]
-abbrev pub id_value_text : Id → List ℕ
-id_value_text id.None = codes "null"
-id_value_text (id.Number n) = signed_decimal n
-id_value_text (id.Text s) = spelling_of (spelled_text s)
 
 -- the id of a geometry, null where there is no geometry [RFC 8259; own]
 abbrev pub id_text_of : Option Geom → List ℕ

@@ -1,11 +1,12 @@
 //! Writing neighbours as a JSON object from ids to lists of ids, piece by piece and with no memory.
-ghost use Rattle.query.specs.Keyed.{key_text, keyed_text, member_text, members};
+ghost use Rattle.query.specs.Keyed.{key_text, keyed_text, members};
 ghost use Rattle.sinks.specs.Writes.{TookAll, TookPart};
 ghost use Rattle.std.specs.Prelude.{◌≡◌, map, [], OnErr, OnOk};
 
 use crate::writer::IdsOf;
 use shapes::shape::Id;
-use sinks::written::{Listed, Number, Text, Then, Written};
+use shapes::writing::Lists;
+use sinks::written::{Noted, Number, Written};
 use sinks::{Sink, WriteFault};
 use topo::Geom;
 
@@ -18,52 +19,50 @@ impl<'a> Written for IdKey<'a> {
 
     fn write<W: Sink>(&self, sink: &mut W) -> Result<(), WriteFault> {
         match self.0 {
-            Id::None => Text(b"\"null\"").write(sink),
-            Id::Number(number) => Then(Text(b"\""), Then(Number(*number), Text(b"\""))).write(sink),
-            Id::Text(text) => Text(text.spelling().as_bytes()).write(sink),
+            Id::None => "\"null\"".write(sink),
+            Id::Number(number) => ("\"", Number(*number), "\"").write(sink),
+            Id::Text(text) => text.write(sink),
         }
     }
 }
 
-/// Writes a geometry's id, and the ids of the geometries at the indexes of a list.
-fn write_member<W: Sink>(
-    separator: Text<'_>,
-    geometries: &[Geom],
-    geometry: &Geom,
-    list: &[usize],
-    sink: &mut W,
-) -> Result<(), WriteFault>
-    ensures whole { OnOk result (TookAll (W.seen sink.old) (W.seen sink.new) (member_text separator.entry.0.now geometries.now geometry.now list.now)) }
-    ensures part { OnErr result (TookPart (W.seen sink.old) (W.seen sink.new) (member_text separator.entry.0.now geometries.now geometry.now list.now)) }
-{
-    let ids = Listed(list, &IdsOf(geometries));
-    Then(separator, Then(IdKey(&geometry.id), Then(Text(b":"), ids))).write(sink)
+/// The members of an object, with commas between them.
+#[derive(Clone, Copy)]
+struct MembersOf<'a>(&'a [Geom], &'a [Vec<usize>]);
+
+impl<'a> Written for MembersOf<'a> {
+    ghost text = { λ m. members [] m.0.now m.0.now (map (λ l. l.items) m.1.now) };
+
+    fn write<W: Sink>(&self, sink: &mut W) -> Result<(), WriteFault> {
+        let ids = Lists(IdsOf(self.0));
+        let mut separator = "";
+        let mut others = self.0;
+        let mut left = self.1;
+        while let Some((geometry, behind)) = others.split_first() {
+            let Some((list, after)) = left.split_first() else {
+                return Ok(());
+            };
+            match (separator, IdKey(&geometry.id), ":", Noted(list, &ids)).write(sink) {
+                Ok(()) => separator = ",",
+                Err(fault) => return Err(fault),
+            }
+            others = behind;
+            left = after;
+        }
+        Ok(())
+    }
 }
 
-/// Writes the members of an object, with commas between them.
-fn write_members<W: Sink>(
-    geometries: &[Geom],
-    lists: &[Vec<usize>],
-    sink: &mut W,
-) -> Result<(), WriteFault>
-    ensures whole { OnOk result (TookAll (W.seen sink.old) (W.seen sink.new) (members [] geometries.now geometries.now (map (λ l. l.items) lists.now))) }
-    ensures part { OnErr result (TookPart (W.seen sink.old) (W.seen sink.new) (members [] geometries.now geometries.now (map (λ l. l.items) lists.now))) }
-{
-    let mut separator = Text(b"");
-    let mut others = geometries;
-    let mut left = lists;
-    while let Some((geometry, behind)) = others.split_first() {
-        let Some((list, after)) = left.split_first() else {
-            return Ok(());
-        };
-        match write_member(separator, geometries, geometry, list.as_slice(), sink) {
-            Ok(()) => separator = Text(b","),
-            Err(fault) => return Err(fault),
-        }
-        others = behind;
-        left = after;
+/// The text of lists of indexes as an object, which `write_neighbors_keyed` writes.
+#[derive(Clone, Copy)]
+pub struct KeyedText<'a>(pub &'a [Geom], pub &'a [Vec<usize>]);
+
+impl<'a> Written for KeyedText<'a> {
+    ghost text = { λ k. keyed_text k.0.now (map (λ l. l.items) k.1.now) };
+
+    fn write<W: Sink>(&self, sink: &mut W) -> Result<(), WriteFault> {
+        ("{", MembersOf(self.0, self.1), "}").write(sink)
     }
-    Ok(())
 }
 
 /// Writes lists of indexes of a layer's geometries, as `neighbors` answers them, as a JSON object: for each geometry
@@ -80,17 +79,5 @@ pub fn write_neighbors_keyed<W: Sink>(
     ensures whole { OnOk result (TookAll (W.seen sink.old) (W.seen sink.new) (keyed_text geometries.now (map (λ l. l.items) lists.now))) }
     ensures part { OnErr result (TookPart (W.seen sink.old) (W.seen sink.new) (keyed_text geometries.now (map (λ l. l.items) lists.now))) }
 {
-    Then(Text(b"{"), Then(MembersOf(geometries, lists), Text(b"}"))).write(sink)
-}
-
-/// The members of an object.
-#[derive(Clone, Copy)]
-struct MembersOf<'a>(&'a [Geom], &'a [Vec<usize>]);
-
-impl<'a> Written for MembersOf<'a> {
-    ghost text = { λ m. members [] m.0.now m.0.now (map (λ l. l.items) m.1.now) };
-
-    fn write<W: Sink>(&self, sink: &mut W) -> Result<(), WriteFault> {
-        write_members(self.0, self.1, sink)
-    }
+    KeyedText(geometries, lists).write(sink)
 }

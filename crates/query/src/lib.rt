@@ -26,7 +26,7 @@ mod writer;
 pub use edges::Edges;
 pub use fault::QueryFault;
 pub use info::{ArcCounts, Kinds, count_arcs, count_kinds};
-pub use keyed::write_neighbors_keyed;
+pub use keyed::{KeyedText, write_neighbors_keyed};
 pub use layer_text::collection::write_layer;
 pub use layer_text::fault::LayerFault;
 pub use layer_text::sequence::{write_sequence, write_sequences};
@@ -36,4 +36,7 @@ pub use questions::feature::feature;
 pub use questions::mesh::mesh;
 pub use questions::neighbors::neighbors;
 pub use questions::neighbors_by::neighbors_by;
-pub use writer::{write_mesh, write_neighbor_ids, write_neighbors};
+pub use writer::{
+    IdsOf, MeshText, NeighborIdsText, NeighborsText, write_mesh, write_neighbor_ids,
+    write_neighbors,
+};

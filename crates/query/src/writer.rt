@@ -1,19 +1,17 @@
 //! Writing meshes and neighbours as JSON, piece by piece and with no memory.
 ghost use Rattle.geojson_io.specs.CollectionText.{line_text};
 ghost use Rattle.grid.specs.declared.pos.Pos.{Pos};
-ghost use Rattle.query.specs.AnswerTexts.{id_text_of, id_value_text, mesh_text, neighbor_ids_text, neighbors_text};
-ghost use Rattle.sinks.specs.Texts.{joined, list_text};
+ghost use Rattle.query.specs.AnswerTexts.{id_text_of, mesh_text, neighbor_ids_text, neighbors_text};
+ghost use Rattle.sinks.specs.Texts.{joined};
 ghost use Rattle.sinks.specs.Writes.{TookAll, TookPart};
-ghost use Rattle.std.specs.Fmt.{decimal};
 ghost use Rattle.std.specs.Prelude.{◌≡◌, map, slice_get, OnErr, OnOk};
 
 use chains::ArcTable;
-use geojson_io::writer::{Geometry, JoinedPlaces};
+use geojson_io::writer::{Geometry, Places};
 use grid::{Grid, Pos};
-use itoa::Buffer;
-use shapes::shape::Id;
-use sinks::written::{Bracketed, Listed, Notation, Number, Text, Then, Written};
-use sinks::{Sink, WriteFault, put};
+use shapes::writing::Lists;
+use sinks::written::{Bracketed, Listed, Notation, Numbers, Written};
+use sinks::{Sink, WriteFault};
 use topo::Geom;
 
 /// The lines of a table in order, as lists of places, with commas between them.
@@ -24,14 +22,26 @@ impl<'a> Written for LinesIn<'a> {
     ghost text = { λ l. joined (line_text l.1.now) l.0.now.arcs };
 
     fn write<W: Sink>(&self, sink: &mut W) -> Result<(), WriteFault> {
-        let mut separator = Text(b"");
+        let mut separator = "";
         for line in self.0.iter() {
-            match Then(separator, Bracketed(JoinedPlaces(line, self.1))).write(sink) {
-                Ok(()) => separator = Text(b","),
+            match (separator, Listed(line, &Places(self.1))).write(sink) {
+                Ok(()) => separator = ",",
                 Err(fault) => return Err(fault),
             }
         }
         Ok(())
+    }
+}
+
+/// The text of a mesh, which `write_mesh` writes.
+#[derive(Clone, Copy)]
+pub struct MeshText<'a>(pub &'a Grid, pub &'a ArcTable);
+
+impl<'a> Written for MeshText<'a> {
+    ghost text = { λ m. mesh_text m.0.now m.1.now.arcs };
+
+    fn write<W: Sink>(&self, sink: &mut W) -> Result<(), WriteFault> {
+        Geometry(Bracketed(LinesIn(self.1, self.0)), "MultiLineString").write(sink)
     }
 }
 
@@ -46,31 +56,18 @@ pub fn write_mesh<W: Sink>(grid: &Grid, lines: &ArcTable, sink: &mut W) -> Resul
     ensures whole { OnOk result (TookAll (W.seen sink.old) (W.seen sink.new) (mesh_text grid.now lines.now.arcs)) }
     ensures part { OnErr result (TookPart (W.seen sink.old) (W.seen sink.new) (mesh_text grid.now lines.now.arcs)) }
 {
-    Geometry(Bracketed(LinesIn(lines, grid)), b"MultiLineString").write(sink)
+    MeshText(grid, lines).write(sink)
 }
 
-/// Numbers, in decimal.
+/// The text of lists of indexes, which `write_neighbors` writes.
 #[derive(Clone, Copy)]
-struct Decimals;
+pub struct NeighborsText<'a>(pub &'a [Vec<usize>]);
 
-impl Notation<usize> for Decimals {
-    ghost text = { λ _ n. decimal n };
+impl<'a> Written for NeighborsText<'a> {
+    ghost text = { λ n. neighbors_text (map (λ l. l.items) n.0.now) };
 
-    fn write_value<W: Sink>(&self, value: &usize, sink: &mut W) -> Result<(), WriteFault> {
-        let mut buffer = Buffer::new();
-        put(sink, buffer.format(*value).as_bytes())
-    }
-}
-
-/// Lists of such numbers, each in brackets.
-#[derive(Clone, Copy)]
-struct DecimalLists;
-
-impl Notation<Vec<usize>> for DecimalLists {
-    ghost text = { λ _ list. list_text decimal list.items };
-
-    fn write_value<W: Sink>(&self, value: &Vec<usize>, sink: &mut W) -> Result<(), WriteFault> {
-        Listed(value.as_slice(), &Decimals).write(sink)
+    fn write<W: Sink>(&self, sink: &mut W) -> Result<(), WriteFault> {
+        Listed(self.0, &Lists(Numbers)).write(sink)
     }
 }
 
@@ -83,45 +80,33 @@ pub fn write_neighbors<W: Sink>(lists: &[Vec<usize>], sink: &mut W) -> Result<()
     ensures whole { OnOk result (TookAll (W.seen sink.old) (W.seen sink.new) (neighbors_text (map (λ l. l.items) lists.now))) }
     ensures part { OnErr result (TookPart (W.seen sink.old) (W.seen sink.new) (neighbors_text (map (λ l. l.items) lists.now))) }
 {
-    Listed(lists, &DecimalLists).write(sink)
+    NeighborsText(lists).write(sink)
 }
 
-/// Writes an id as a JSON value.
-fn write_id<W: Sink>(id: &Id, sink: &mut W) -> Result<(), WriteFault>
-    ensures whole { OnOk result (TookAll (W.seen sink.old) (W.seen sink.new) (id_value_text id.now)) }
-    ensures part { OnErr result (TookPart (W.seen sink.old) (W.seen sink.new) (id_value_text id.now)) }
-{
-    match id {
-        Id::None => Text(b"null").write(sink),
-        Id::Number(number) => Number(*number).write(sink),
-        Id::Text(text) => Text(text.spelling().as_bytes()).write(sink),
-    }
-}
-
-/// Places of geometries, each as the id of its geometry.
+/// Indexes of geometries, each as the id of its geometry; `null` where there is none.
 #[derive(Clone, Copy)]
-pub(crate) struct IdsOf<'a>(pub(crate) &'a [Geom]);
+pub struct IdsOf<'a>(pub &'a [Geom]);
 
 impl<'a> Notation<usize> for IdsOf<'a> {
     ghost text = { λ ids index. id_text_of (slice_get ids.0.now index) };
 
     fn write_value<W: Sink>(&self, value: &usize, sink: &mut W) -> Result<(), WriteFault> {
         match self.0.get(*value) {
-            Some(geometry) => write_id(&geometry.id, sink),
-            None => Text(b"null").write(sink),
+            Some(geometry) => geometry.id.write(sink),
+            None => "null".write(sink),
         }
     }
 }
 
-/// Lists of such indexes, each in brackets.
+/// The text of lists of indexes by ids, which `write_neighbor_ids` writes.
 #[derive(Clone, Copy)]
-struct IdListsOf<'a>(&'a [Geom]);
+pub struct NeighborIdsText<'a>(pub &'a [Geom], pub &'a [Vec<usize>]);
 
-impl<'a> Notation<Vec<usize>> for IdListsOf<'a> {
-    ghost text = { λ ids list. list_text (λ p. id_text_of (slice_get ids.0.now p)) list.items };
+impl<'a> Written for NeighborIdsText<'a> {
+    ghost text = { λ n. neighbor_ids_text n.0.now (map (λ l. l.items) n.1.now) };
 
-    fn write_value<W: Sink>(&self, value: &Vec<usize>, sink: &mut W) -> Result<(), WriteFault> {
-        Listed(value.as_slice(), &IdsOf(self.0)).write(sink)
+    fn write<W: Sink>(&self, sink: &mut W) -> Result<(), WriteFault> {
+        Listed(self.1, &Lists(IdsOf(self.0))).write(sink)
     }
 }
 
@@ -139,5 +124,5 @@ pub fn write_neighbor_ids<W: Sink>(
     ensures whole { OnOk result (TookAll (W.seen sink.old) (W.seen sink.new) (neighbor_ids_text geometries.now (map (λ l. l.items) lists.now))) }
     ensures part { OnErr result (TookPart (W.seen sink.old) (W.seen sink.new) (neighbor_ids_text geometries.now (map (λ l. l.items) lists.now))) }
 {
-    Listed(lists, &IdListsOf(geometries)).write(sink)
+    NeighborIdsText(geometries, lists).write(sink)
 }

@@ -1,19 +1,20 @@
 -- Lists of values and of their data.
-use Rattle.std.proofs.Common.{◌≡◌, ℕ, zero, add-one, suc, ◌+◌, ◌<◌, length, get_or, drop, take, List, [], ◌∷◌, ◌++◌, Some, map, refl, sym, ap, ◌∙◌, subst, arith}
+use Rattle.std.proofs.Common.{◌≡◌, ℕ, zero, add-one, suc, ◌+◌, ◌<◌, length, get_or, drop, take, List, [], ◌∷◌, ◌++◌, Option, Some, None, map, refl, sym, ap, ◌∙◌, subst, arith}
 use Rattle.std.specs.List.{AllZip}
 use Rattle.std.specs.Cmp.{nat_cmp_is}
 use Rattle.std.specs.declared.cmp.Ordering.TheVariants.{Less}
 use Rattle.std.proofs.lemmas.List.{drop_more}
-use Rattle.serde_json.specs.Data.{Data}
+use Rattle.serde_json.specs.Data.{Data, Items}
 use Rattle.serde_json.specs.Find.{as_array}
 use Rattle.serde_json.specs.View.{view, items_of}
 use Rattle.serde_json.specs.declared.value.Value.{Value}
 use Rattle.faults.specs.Path.{index}
 use Rattle.faults.specs.Fault.{Pair, Lifted}
 use Rattle.reading.specs.Fault.{here, under, LeastOrWant}
-use Rattle.reading.specs.Parts.{list_of, each_faults, array_faults, elements, two_faults}
+use Rattle.reading.specs.Parts.{list_of, each_faults, array_faults, elements, two_faults, IsPair}
 use Rattle.faults.specs.declared.fault.FaultKind.TheVariants.{NotTwo}
 use Rattle.faults.specs.declared.fault.Fault.{Fault}
+use Rattle.reading.proofs.Faultless.{under_none, first_none, second_none}
 use Rattle.reading.proofs.Least.{After, after_none, after_under, after_append, lifted, lifted_last}
 
 pub list_of-items_of : (ds : List Data) → list_of (items_of ds) ≡ ds
@@ -106,3 +107,43 @@ zip_weaker R S [] [] f h = tt
 zip_weaker R S [] (x ∷ xs) f h = absurd h
 zip_weaker R S (d ∷ ds) [] f h = absurd h
 zip_weaker R S (d ∷ ds) (x ∷ xs) f h = (f d x h.0, zip_weaker R S ds xs f h.1)
+
+-- ---- arrays without faults
+
+pub no_array : (within : List Data → List Pair) (d : Data) → None ≡ as_array d → array_faults within (as_array d) ≡ [] → ⊥
+no_array within d is e = go (as_array d) is e
+  where
+    go : (o : Option Items) → None ≡ o → array_faults within o ≡ [] → ⊥
+    go None is e = cc
+    go (Some ds) is e = cc
+
+pub within_sound : (within : List Data → List Pair) (d : Data) (vs : List Value) → Some (items_of (map view vs)) ≡ as_array d → array_faults within (as_array d) ≡ [] → within (map view vs) ≡ []
+within_sound within d vs is e = sym (array_is within d vs is) ∙ e
+
+-- so none of its elements has one
+pub each_sound : (of : Data → List Pair) (i j : ℕ) (vs : List Value) (v : Value) → j < length vs → v ≡ get_or vs j v → each_faults of i (map view vs) ≡ [] → of (view v) ≡ []
+each_sound of i j [] v less is e = absurd (omega arith)
+each_sound of i zero (u ∷ vs) v less is e = subst (λ w. of (view w) ≡ []) (sym is) (under_none (index i) (of (view u)) (first_none (under (index i) (of (view u))) _ e))
+each_sound of i (suc j) (u ∷ vs) v less is e = each_sound of (i + 1) j vs v (omega arith) is (second_none (under (index i) (of (view u))) _ e)
+
+pub two_sound : (first second : Data → List Pair) (vs : List Value) → two_faults first second (map view vs) ≡ [] → length vs ≡ 2
+two_sound first second [] e = cc
+two_sound first second (x ∷ []) e = cc
+two_sound first second (x ∷ y ∷ []) e = refl
+two_sound first second (x ∷ y ∷ z ∷ vs) e = cc
+
+pub first_sound : (first second : Data → List Pair) (vs : List Value) (a : Value) → a ≡ get_or vs 0 a → two_faults first second (map view vs) ≡ [] → first (view a) ≡ []
+first_sound first second [] a is e = cc
+first_sound first second (x ∷ []) a is e = cc
+first_sound first second (x ∷ y ∷ []) a is e = subst (λ v. first (view v) ≡ []) (sym is) (under_none (index 0) (first (view x)) (first_none (under (index 0) (first (view x))) _ e))
+first_sound first second (x ∷ y ∷ z ∷ vs) a is e = cc
+
+pub second_sound : (first second : Data → List Pair) (vs : List Value) (b : Value) → b ≡ get_or vs 1 b → two_faults first second (map view vs) ≡ [] → second (view b) ≡ []
+second_sound first second [] b is e = cc
+second_sound first second (x ∷ []) b is e = cc
+second_sound first second (x ∷ y ∷ []) b is e = subst (λ v. second (view v) ≡ []) (sym is) (under_none (index 1) (second (view y)) (second_none (under (index 0) (first (view x))) _ e))
+second_sound first second (x ∷ y ∷ z ∷ vs) b is e = cc
+
+pub two_mean : {X Y : Type 0} (R : Data → X → Type 0) (S : Data → Y → Type 0) (vs : List Value) (a b : Value) (x : X) (y : Y) → length vs ≡ 2 → a ≡ get_or vs 0 a → b ≡ get_or vs 1 b
+    → R (view a) x → S (view b) y → IsPair R S (map view vs) x y
+two_mean R S vs a b x y two ea eb r s = subst (λ us. IsPair R S (map view us) x y) (sym (two_is vs a b two ea eb)) (r, s)

@@ -2,3 +2,4 @@ pub mod Reading
 pub mod Lists
 pub mod Objects
 pub mod Numbers
+pub mod Refused

@@ -4,11 +4,10 @@ use Rattle.serde_json.specs.Data.{Data, null, boolean, number, string, array, ob
 use Rattle.serde_json.specs.Find.{get, as_null, as_i64}
 use Rattle.serde_json.specs.Written.{has_float, compact_text}
 use Rattle.faults.specs.Fault.{Pair}
-use Rattle.faults.specs.declared.fault.FaultKind.TheVariants.{WrongKind, NotWhole, PropertyNumber, PropertyDepth, OutOfMemory}
-use Rattle.faults.specs.declared.fault.FaultKind.{FaultKind}
+use Rattle.faults.specs.declared.fault.FaultKind.TheVariants.{WrongKind, NotWhole, PropertyNumber, PropertyDepth}
 use Rattle.shapes.specs.declared.nesting.TheConstants.{GREATEST_PROPERTY_DEPTH}
-use Rattle.shapes.specs.declared.props.PropFault as props
-use Rattle.shapes.specs.declared.props.PropFault.TheVariants as of
+use Rattle.shapes.specs.declared.props.Props.{Props}
+use Rattle.shapes.specs.Parts.{properties_text}
 use Rattle.reading.specs.Fault.{here}
 use Rattle.reading.specs.Parts.{option_faults}
 use Rattle.shapes.specs.Ids.{HasI64}
@@ -69,11 +68,8 @@ pub record IsIdOf (d : Data) (i : Id) : Type 0 where
 abbrev pub properties_of : Data → List ℕ
 properties_of d = if is_some (as_null d) then codes "{}" else compact_text d
 
--- ---- the faults that `Props::from_value` reports
-
--- the kind of error that a fault of properties is
-abbrev pub properties_kind : props.PropFault → FaultKind
-properties_kind of.WrongKind = WrongKind
-properties_kind of.PropertyNumber = PropertyNumber
-properties_kind of.PropertyDepth = PropertyDepth
-properties_kind of.OutOfMemory = OutOfMemory
+-- the id and the properties are what the members of an object mean
+pub record IsInfoOf (d : Data) (i : Id) (p : Props) : Type 0 where
+  pub id : plain_id i ≡ id_of (member_or_null (codes "id") d)
+  pub bits : HasI64 i
+  pub properties : properties_text p ≡ properties_of (member_or_null (codes "properties") d)

@@ -15,3 +15,5 @@ pub mod Shapes
 pub mod FaultLists
 pub mod Tokens
 pub mod TokenParts
+pub mod Converted
+pub mod ConvertedLaws

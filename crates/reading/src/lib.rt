@@ -6,6 +6,7 @@
 //! the first error: by path, then by number.
 #![tactic(auto)]
 
+pub mod converted;
 pub mod document;
 pub mod fault_lists;
 pub mod geometry;
@@ -13,6 +14,7 @@ pub mod info;
 pub mod number;
 pub mod outline;
 pub mod part;
+pub mod parts;
 pub mod shape;
 pub mod token_parts;
 pub mod tokens;

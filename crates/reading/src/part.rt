@@ -3,12 +3,12 @@ ghost use Rattle.faults.specs.Fault.{Pair, IsWant};
 ghost use Rattle.faults.specs.Path.{name as name_turn};
 ghost use Rattle.reading.specs.Fault.{LeastOrWant, here, under};
 ghost use Rattle.reading.specs.Info.{member_or_null};
-ghost use Rattle.reading.specs.Parts.{each_faults, list_faults, elements, two_faults, pair_faults, IsPair, option_faults, member_faults, each_member_faults, MeanMembers, named, of_type, type_text};
+ghost use Rattle.reading.specs.Parts.{each_faults, list_faults, elements, two_faults, pair_faults, IsPair, member_faults, each_member_faults, MeanMembers, named, of_type, type_text};
 ghost use Rattle.serde_json.specs.Data.{Data};
 ghost use Rattle.serde_json.specs.Find.{as_array, get};
 ghost use Rattle.serde_json.specs.View.{view, members_view};
 ghost use Rattle.std.specs.List.{AllZip};
-ghost use Rattle.std.specs.Prelude.{◌≡◌, [], ◌∷◌, ◌++◌, List, map, IfOk, IfErr, OnOk, MatchOption, Some, None, Ok, Err, codes, String, string_bytes};
+ghost use Rattle.std.specs.Prelude.{◌≡◌, [], ◌∷◌, ◌++◌, List, map, IfOk, IfErr, OnOk, Some, Ok, Err, codes, String, string_bytes};
 ghost use Rattle.theory.specs.Lists.{Distinct};
 
 use faults::fault::{Fault, FaultKind};
@@ -135,28 +135,6 @@ fn read_two<P: Part, Q: Part>(
         Err(fault) => return Err(fault.under_index(1)),
     };
     Ok((x, y))
-}
-
-/// A member that may be missing.
-pub fn read_option<P: Part>(
-    alloc: Global,
-    part: &P,
-    value: &Value,
-    member: &str,
-) -> Result<Option<P::Made>, Fault>
-    ensures ok { OnOk result (option_faults member.now (P.faults part.now) (view value.now) ≡ []) }
-    ensures made { IfOk result (λ o. MatchOption o (get member.now (view value.now) ≡ None)
-        (λ x. (d : Data) × (get member.now (view value.now) ≡ Some d) × P.means part.now d x)) }
-    ensures err { IfErr result
-        (λ f. LeastOrWant (option_faults member.now (P.faults part.now) (view value.now)) f) }
-{
-    match value.get(member) {
-        None => Ok(None),
-        Some(found) => match part.read(alloc, found) {
-            Ok(made) => Ok(Some(made)),
-            Err(fault) => Err(fault.under_name(alloc, member)),
-        },
-    }
 }
 
 /// A member that has to be there; a missing one is reported at its own path.

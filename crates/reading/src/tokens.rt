@@ -6,6 +6,7 @@
 //! These readers only accept. Where one stops, that says nothing of the text: its caller reads the
 //! text again as a value, and finds the fault there if it has one.
 
+pub mod end;
 pub mod from_tokens;
 pub mod list;
 pub mod number;

@@ -1,25 +1,18 @@
 -- Texts of reports.
-use Rattle.std.proofs.Common.{◌≡◌, ◌∙◌, ◌++◌, ◌∷◌, [], List, ap, codes, map, refl}
+use Rattle.std.proofs.Common.{◌≡◌, ◌∙◌, List, ap, map, sym}
 use Rattle.rounded_maps.specs.declared.building.Rounded.{Rounded}
 use Rattle.rounded_maps.specs.declared.equal.EqualFeatures.{EqualFeatures}
 use Rattle.rounded_maps.specs.declared.files.Origin.{Origin}
 use Rattle.rounded_maps.specs.declared.outcome.Outcome.{Outcome}
-use Rattle.sinks.specs.Texts.{after_commas, bracketed, joined, list_text}
+use Rattle.sinks.proofs.Joined.{list_text_map}
+use Rattle.sinks.specs.Texts.{list_text}
 use Rattle.report_texts.specs.ReportParts.{map_origin, map_origin_text}
 use Rattle.report_texts.specs.ReportText.{Joins, Shares, equal_of, joined_of, origin_of, place_text, report_line, report_of, shared_of}
 use Rattle.report_texts.specs.declared.report_line.MapOrigin.{MapOrigin}
 
-after_map : (ms : List MapOrigin) → after_commas map_origin_text ms ≡ after_commas place_text (map map_origin ms)
-after_map [] = refl
-after_map (m ∷ ms) = ap (λ t. (codes "," ++ map_origin_text m) ++ t) (after_map ms)
-
-joined_map : (ms : List MapOrigin) → joined map_origin_text ms ≡ joined place_text (map map_origin ms)
-joined_map [] = refl
-joined_map (m ∷ ms) = ap (λ t. map_origin_text m ++ t) (after_map ms)
-
 -- the list of origins, of which these are the spelled ones
 pub origins_text : (ms : List MapOrigin) (os : List Origin) → map map_origin ms ≡ map origin_of os → list_text map_origin_text ms ≡ list_text place_text (map origin_of os)
-origins_text ms os e = ap bracketed (joined_map ms) ∙ ap (list_text place_text) e
+origins_text ms os e = sym (list_text_map place_text map_origin ms) ∙ ap (list_text place_text) e
 
 -- the report of its parts
 pub line_is : (r : Rounded) (ms : List MapOrigin) (outcomes : List Outcome) (equal : List EqualFeatures) (joins : Joins) (shares : Shares) → map map_origin ms ≡ map origin_of r.origins.items →

@@ -5,12 +5,11 @@ use Rattle.compare.specs.Quality.FoundNear.{AreNearOf}
 use Rattle.compare.specs.Quality.Ids.{ids_in, is_missing, numbers_of, occurs_again}
 use Rattle.compare.specs.declared.quality.near.NearVertices.{NearVertices}
 use Rattle.compare.specs.declared.quality.pairs.NearPlace.{NearPlace}
-use Rattle.grid.specs.Fits.{absolute_place}
+use Rattle.geojson_io.specs.CollectionText.{place_text}
 use Rattle.grid.specs.Place.{Transform}
-use Rattle.grid.specs.declared.pos.Pos.{Pos}
 use Rattle.shapes.specs.Parts.{spelled_text}
 use Rattle.shapes.specs.Spelling.{spelling_of}
-use Rattle.sinks.specs.Texts.{list_text, pair_text}
+use Rattle.sinks.specs.Texts.{list_text}
 use Rattle.topo.specs.Parts.{LayerParts, TopologyParts}
 use Rattle.report_texts.specs.Parts.{numbers_text}
 use Rattle.report_texts.specs.declared.quality_text.QualityTests.{QualityTests}
@@ -44,10 +43,6 @@ lists_if false t = None
 abbrev pub lists_text : Option (List LayerLists) → List ℕ
 lists_text None = codes "null"
 lists_text (Some ls) = list_text layer_lists_text ls
-
--- the absolute numbers of a position
-abbrev pub place_text : Transform → Pos → List ℕ
-place_text g p = pair_text (absolute_place g p).0 (absolute_place g p).1
 
 -- two places of vertices, by their absolute numbers
 abbrev pub near_pair : Transform → NearPlace × NearPlace → List ℕ

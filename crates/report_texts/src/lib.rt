@@ -1,9 +1,8 @@
 //! Reports as JSON objects: what became of maps that were rounded, and what tests of a map's quality found.
 #![tactic(auto)]
 
-mod parts;
 mod quality_text;
 mod report_line;
 
-pub use quality_text::{QualityTests, write_quality};
-pub use report_line::write_report;
+pub use quality_text::{QualityTests, quality_text};
+pub use report_line::text_with_report;

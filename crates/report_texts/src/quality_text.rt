@@ -1,20 +1,17 @@
 //! What tests of a map's quality found, as a JSON object.
 ghost use Rattle.report_texts.specs.QualityParts.{id_lists_text, layer_lists, lists_found, text_or_null};
-ghost use Rattle.report_texts.specs.QualityText.{AreNearIf, IsQualityText, canonical_text, found_text, layer_name, lists_if, lists_of, named_numbers, near_pair, near_text, place_text};
-ghost use Rattle.shapes.specs.Parts.{spelled_text};
-ghost use Rattle.sinks.specs.InMemory.{kept_seen};
-ghost use Rattle.sinks.specs.Writes.{TookAll};
-ghost use Rattle.std.specs.Prelude.{◌≡◌, ℕ, IfOk, List, OnOk, map};
+ghost use Rattle.report_texts.specs.QualityText.{AreNearIf, IsQualityText, canonical_text, lists_if, lists_of, near_pair, near_text};
+ghost use Rattle.std.specs.Prelude.{◌≡◌, IfOk, map};
 
-use crate::parts::DecimalNumbers;
 use compare::quality::{NearPlace, NearVertices, near_vertices, repeated_ids, without_id};
 use faults::OutOfMemory;
-use grid::{Grid, Pos};
+use geojson_io::writer::Places;
+use grid::Grid;
 use shapes::Spelled;
-use sinks::written::{Listed, Notation, Pair, Text, Then, Written};
-use sinks::{Kept, Sink, WriteFault};
+use shapes::writing::Lists;
+use sinks::written::{Listed, Notation, Noted, Number, Numbers, Written};
+use sinks::{Sink, WriteFault, to_bytes};
 use std::alloc::Global;
-use text_parts::WideDigits;
 use topo::{Layer, Topology};
 
 /// What is asked about a map.
@@ -36,30 +33,6 @@ struct IdLists<'a> {
     repeated: Vec<usize>,
 }
 
-/// The name of a layer.
-#[derive(Clone, Copy)]
-struct LayerName<'a>(&'a Spelled);
-
-impl<'a> Written for LayerName<'a> {
-    ghost text = { λ n. layer_name (spelled_text n.0.now) };
-
-    fn write<W: Sink>(&self, sink: &mut W) -> Result<(), WriteFault> {
-        Then(Text(b"{\"layer\":"), Text(self.0.spelling().as_bytes())).write(sink)
-    }
-}
-
-/// A list of numbers behind its name.
-#[derive(Clone, Copy)]
-struct NamedNumbers<'a>(&'a [u8], &'a Vec<usize>);
-
-impl<'a> Written for NamedNumbers<'a> {
-    ghost text = { λ n. named_numbers n.0.now n.1.now.items };
-
-    fn write<W: Sink>(&self, sink: &mut W) -> Result<(), WriteFault> {
-        Then(Text(self.0), Listed(self.1.as_slice(), &DecimalNumbers)).write(sink)
-    }
-}
-
 /// The lists of a layer.
 #[derive(Clone, Copy)]
 struct ListObjects;
@@ -68,10 +41,10 @@ impl<'a> Notation<IdLists<'a>> for ListObjects {
     ghost text = { λ _ l. id_lists_text l };
 
     fn write_value<W: Sink>(&self, value: &IdLists<'a>, sink: &mut W) -> Result<(), WriteFault> {
-        let missing = NamedNumbers(b",\"missing\":", &value.missing);
-        let repeated = NamedNumbers(b",\"repeated\":", &value.repeated);
-        let lists = Then(missing, Then(repeated, Text(b"}")));
-        Then(LayerName(value.name), lists).write(sink)
+        let numbers = Lists(Numbers);
+        let missing = (",\"missing\":", Noted(&value.missing, &numbers));
+        let repeated = (",\"repeated\":", Noted(&value.repeated, &numbers));
+        (("{\"layer\":", value.name), missing, repeated, "}").write(sink)
     }
 }
 
@@ -85,21 +58,8 @@ impl<'a> Written for ListsOrNull<'a> {
     fn write<W: Sink>(&self, sink: &mut W) -> Result<(), WriteFault> {
         match self.0 {
             Some(lists) => Listed(lists.as_slice(), &ListObjects).write(sink),
-            None => Text(b"null").write(sink),
+            None => "null".write(sink),
         }
-    }
-}
-
-/// Positions by their absolute numbers.
-#[derive(Clone, Copy)]
-struct Absolute<'a>(&'a Grid, Pos);
-
-impl<'a> Written for Absolute<'a> {
-    ghost text = { λ a. place_text a.0.now a.1 };
-
-    fn write<W: Sink>(&self, sink: &mut W) -> Result<(), WriteFault> {
-        let (x, y) = self.0.to_absolute(self.1);
-        Pair(x, y).write(sink)
     }
 }
 
@@ -116,8 +76,14 @@ impl<'a> Notation<(NearPlace, NearPlace)> for NearPairs<'a> {
         sink: &mut W,
     ) -> Result<(), WriteFault> {
         let (one, other) = *value;
-        let rest = Then(Text(b","), Then(Absolute(self.0, other.at), Text(b"]")));
-        Then(Text(b"["), Then(Absolute(self.0, one.at), rest)).write(sink)
+        (
+            "[",
+            Absolute(self.0, one.at),
+            ",",
+            Absolute(self.0, other.at),
+            "]",
+        )
+            .write(sink)
     }
 }
 
@@ -131,11 +97,11 @@ impl<'a> Written for NearOrNull<'a> {
     fn write<W: Sink>(&self, sink: &mut W) -> Result<(), WriteFault> {
         match self.0 {
             Some(near) => {
-                let count = Then(Text(b"{\"count\":"), WideDigits(near.count));
+                let count = ("{\"count\":", Number(near.count));
                 let pairs = Listed(near.first.as_slice(), &NearPairs(self.1));
-                Then(count, Then(Text(b",\"pairs\":"), Then(pairs, Text(b"}")))).write(sink)
+                (count, ",\"pairs\":", pairs, "}").write(sink)
             }
-            None => Text(b"null").write(sink),
+            None => "null".write(sink),
         }
     }
 }
@@ -149,9 +115,9 @@ impl Written for Verdict {
 
     fn write<W: Sink>(&self, sink: &mut W) -> Result<(), WriteFault> {
         if self.0 {
-            Text(b"{\"canonical\":true,\"ids\":").write(sink)
+            "{\"canonical\":true,\"ids\":".write(sink)
         } else {
-            Text(b"{\"canonical\":false,\"ids\":").write(sink)
+            "{\"canonical\":false,\"ids\":".write(sink)
         }
     }
 }
@@ -209,42 +175,25 @@ fn near_asked(
     }
 }
 
-/// Writes what was found.
-fn write_found(
-    is_canonical: bool,
-    lists: &Option<Vec<IdLists<'_>>>,
-    grid: &Grid,
-    near: &Option<NearVertices>,
-    kept: &mut Kept,
-) -> Result<(), OutOfMemory>
-    ensures { OnOk result (TookAll (kept_seen kept.old) (kept_seen kept.new) (found_text is_canonical (text_or_null lists.now) grid.now near.now)) }
-{
-    let rest = Then(
-        Text(b",\"near\":"),
-        Then(NearOrNull(near, grid), Text(b"}")),
-    );
-    match Then(Verdict(is_canonical), Then(ListsOrNull(lists), rest)).write(kept) {
-        Ok(()) => Ok(()),
-        Err(_) => Err(OutOfMemory),
-    }
-}
-
-/// Writes what is asked about a topology, of whose text it is known whether it is canonical, as a JSON object: the features
-/// of each layer by their numbers from 0, and pairs of vertices by their absolute numbers. What isn't asked for is null.
+/// What is asked about a topology, of whose text it is known whether it is canonical, as a JSON object: the features of each
+/// layer by their numbers from 0, and pairs of vertices by their absolute numbers. What isn't asked for is null.
 ///
 /// # Errors
-/// `OutOfMemory`; a beginning of the text was kept then.
-pub fn write_quality(
+/// `OutOfMemory`.
+pub fn quality_text(
     alloc: Global,
     topology: &Topology,
     is_canonical: bool,
     tests: &QualityTests,
-    kept: &mut Kept,
-) -> Result<(), OutOfMemory>
-    ensures { OnOk result ((t : List ℕ) × IsQualityText tests.now is_canonical topology.now t × TookAll (kept_seen kept.old) (kept_seen kept.new) t) }
+) -> Result<Vec<u8>, OutOfMemory>
+    ensures { IfOk result (λ t. IsQualityText tests.now is_canonical topology.now t.items) }
 {
     let lists = lists_asked(alloc, topology, tests.ids)?;
     let near = near_asked(alloc, topology, tests)?;
-    write_found(is_canonical, &lists, &topology.grid(), &near, kept)?;
-    Ok(())
+    let grid = topology.grid();
+    let (lists, near) = (ListsOrNull(&lists), NearOrNull(&near, &grid));
+    to_bytes(
+        alloc,
+        &(Verdict(is_canonical), lists, ",\"near\":", near, "}"),
+    )
 }

@@ -3,22 +3,18 @@ ghost use Rattle.report_texts.specs.Parts.{numbers_text};
 ghost use Rattle.report_texts.specs.ReportParts.{joined_counts, line_text, map_origin, map_origin_text, shared_counts};
 ghost use Rattle.report_texts.specs.ReportText.{counts_text, equal_of, fix_counts, fixed_text, joined_of, joined_text, origin_of, outcome_text, pair_or_null, position_of, position_text, report_if, report_line, shared_of, shared_text};
 ghost use Rattle.shapes.specs.Parts.{spelled_text};
-ghost use Rattle.sinks.specs.InMemory.{kept_seen};
-ghost use Rattle.sinks.specs.Writes.{TookAll};
 ghost use Rattle.std.specs.Option.{option_map};
-ghost use Rattle.std.specs.Prelude.{◌≡◌, IfOk, OnOk, map, string_bytes};
+ghost use Rattle.std.specs.Prelude.{◌≡◌, ◌++◌, IfOk, map, string_bytes};
 
-use crate::parts::{DecimalNumbers, NamedCount};
 use faults::OutOfMemory;
 use fixing::{FeatureFixes, Fixes};
 use grid::Pos;
 use rounded_maps::{EqualFeatures, Origin, Outcome, Rounded};
 use shapes::Spelled;
-use sinks::written::{Listed, Notation, Pair, Text, Then, Written};
-use sinks::{Kept, Sink, WriteFault};
+use sinks::written::{Listed, Notation, Number, Numbers, Pair, Written};
+use sinks::{Sink, WriteFault, to_bytes};
 use snapping::nearly_shared::{Clusters, VertexCounts};
 use std::alloc::Global;
-use text_parts::{Digits, WideDigits};
 
 /// A feature of which something was fixed: its number, and how much.
 #[derive(Clone, Copy)]
@@ -29,21 +25,16 @@ impl Notation<FeatureFixes> for FixedFeatures {
 
     fn write_value<W: Sink>(&self, value: &FeatureFixes, sink: &mut W) -> Result<(), WriteFault> {
         let fixes = &value.fixes;
-        let first = Then(
-            Digits(value.feature),
-            Then(
-                NamedCount(b",", fixes.closed),
-                NamedCount(b",", fixes.collapsed),
-            ),
-        );
-        let rest = Then(
-            NamedCount(b",", fixes.folded),
-            Then(
-                NamedCount(b",", fixes.collections),
-                NamedCount(b",", fixes.lost),
-            ),
-        );
-        Then(Text(b"["), Then(first, Then(rest, Text(b"]")))).write(sink)
+        let (closed, collapsed) = (Number(fixes.closed), Number(fixes.collapsed));
+        let folded = (",", Number(fixes.folded));
+        let (collections, lost) = (Number(fixes.collections), Number(fixes.lost));
+        (
+            "[",
+            (Number(value.feature), (",", closed), (",", collapsed)),
+            (folded, (",", collections), (",", lost)),
+            "]",
+        )
+            .write(sink)
     }
 }
 
@@ -55,16 +46,18 @@ impl<'a> Written for FixCounts<'a> {
     ghost text = { λ f. fix_counts f.0.now };
 
     fn write<W: Sink>(&self, sink: &mut W) -> Result<(), WriteFault> {
-        let fixes = self.0;
-        let first = Then(
-            NamedCount(b",\"closed\":", fixes.closed),
-            NamedCount(b",\"collapsed\":", fixes.collapsed),
-        );
-        let rest = Then(
-            NamedCount(b",\"collections\":", fixes.collections),
-            NamedCount(b",\"lost\":", fixes.lost),
-        );
-        Then(first, Then(NamedCount(b",\"folded\":", fixes.folded), rest)).write(sink)
+        let (closed, collapsed) = (Number(self.0.closed), Number(self.0.collapsed));
+        let folded = (",\"folded\":", Number(self.0.folded));
+        let (collections, lost) = (Number(self.0.collections), Number(self.0.lost));
+        (
+            ((",\"closed\":", closed), (",\"collapsed\":", collapsed)),
+            (
+                folded,
+                (",\"collections\":", collections),
+                (",\"lost\":", lost),
+            ),
+        )
+            .write(sink)
     }
 }
 
@@ -77,19 +70,15 @@ impl<'a> Written for MapCounts<'a> {
 
     fn write<W: Sink>(&self, sink: &mut W) -> Result<(), WriteFault> {
         let tally = &self.0.tally;
-        let first = Then(
-            NamedCount(b"{\"features\":", self.0.features as u64),
-            NamedCount(b",\"positions\":", tally.positions),
-        );
-        let moves = Then(
-            NamedCount(b",\"moved\":", tally.moved),
-            NamedCount(b",\"furthest\":", tally.furthest),
-        );
-        let rest = Then(
-            NamedCount(b",\"heights\":", tally.heights),
-            NamedCount(b",\"reals\":", self.0.reals),
-        );
-        Then(first, Then(moves, rest)).write(sink)
+        let (moved, furthest) = (Number(tally.moved), Number(tally.furthest));
+        let (heights, reals) = (Number(tally.heights), Number(self.0.reals));
+        let features = ("{\"features\":", Number(self.0.features));
+        (
+            (features, (",\"positions\":", Number(tally.positions))),
+            ((",\"moved\":", moved), (",\"furthest\":", furthest)),
+            ((",\"heights\":", heights), (",\"reals\":", reals)),
+        )
+            .write(sink)
     }
 }
 
@@ -102,8 +91,14 @@ impl Notation<Outcome> for Outcomes {
 
     fn write_value<W: Sink>(&self, value: &Outcome, sink: &mut W) -> Result<(), WriteFault> {
         let fixed = Listed(value.fixed.as_slice(), &FixedFeatures);
-        let tail = Then(Text(b",\"fixed\":"), Then(fixed, Text(b"}")));
-        Then(MapCounts(value), Then(FixCounts(&value.fixes), tail)).write(sink)
+        (
+            MapCounts(value),
+            FixCounts(&value.fixes),
+            ",\"fixed\":",
+            fixed,
+            "}",
+        )
+            .write(sink)
     }
 }
 
@@ -115,7 +110,7 @@ impl Notation<EqualFeatures> for EqualLists {
     ghost text = { λ _ e. numbers_text e.features.items };
 
     fn write_value<W: Sink>(&self, value: &EqualFeatures, sink: &mut W) -> Result<(), WriteFault> {
-        Listed(value.features.as_slice(), &DecimalNumbers).write(sink)
+        Listed(value.features.as_slice(), &Numbers).write(sink)
     }
 }
 
@@ -138,9 +133,12 @@ impl Notation<MapOrigin> for MapOrigins {
             Some(layer) => layer.spelling(),
             None => "null",
         };
-        let head = Then(Text(b"{\"layer\":"), Text(layer.as_bytes()));
-        let text = Then(Text(b",\"text\":"), Digits(value.text));
-        Then(head, Then(text, Text(b"}"))).write(sink)
+        (
+            ("{\"layer\":", layer),
+            (",\"text\":", Number(value.text)),
+            "}",
+        )
+            .write(sink)
     }
 }
 
@@ -186,7 +184,7 @@ impl Written for PositionOrNull {
     fn write<W: Sink>(&self, sink: &mut W) -> Result<(), WriteFault> {
         match self.0 {
             Some((x, y)) => Pair(x, y).write(sink),
-            None => Text(b"null").write(sink),
+            None => "null".write(sink),
         }
     }
 }
@@ -200,12 +198,10 @@ impl Written for PairOrNull {
 
     fn write<W: Sink>(&self, sink: &mut W) -> Result<(), WriteFault> {
         match self.0 {
-            Some((one, other)) => Then(
-                Then(Text(b"["), Pair(one.0, one.1)),
-                Then(Text(b","), Then(Pair(other.0, other.1), Text(b"]"))),
-            )
-            .write(sink),
-            None => Text(b"null").write(sink),
+            Some((one, other)) => {
+                (("[", Pair(one.0, one.1)), ",", Pair(other.0, other.1), "]").write(sink)
+            }
+            None => "null".write(sink),
         }
     }
 }
@@ -248,12 +244,10 @@ impl Written for JoinedCounts {
     ghost text = { λ j. joined_text (joined_counts j) };
 
     fn write<W: Sink>(&self, sink: &mut W) -> Result<(), WriteFault> {
-        let counts = Then(
-            NamedCount(b",\"joined\":", self.joined as u64),
-            NamedCount(b",\"too_wide\":", self.wide as u64),
-        );
-        let first = Then(Text(b",\"first_too_wide\":"), PositionOrNull(self.first));
-        Then(counts, first).write(sink)
+        let joined = (",\"joined\":", Number(self.joined));
+        let wide = (",\"too_wide\":", Number(self.wide));
+        let first = PositionOrNull(self.first);
+        ((joined, wide), ",\"first_too_wide\":", first).write(sink)
     }
 }
 
@@ -289,13 +283,15 @@ impl Written for SharedCounts {
     ghost text = { λ s. shared_text (shared_counts s) };
 
     fn write<W: Sink>(&self, sink: &mut W) -> Result<(), WriteFault> {
-        let near = Then(Text(b",\"nearly_shared\":"), WideDigits(self.near));
-        let first = Then(Text(b",\"first_nearly_shared\":"), PairOrNull(self.first));
-        Then(
-            NamedCount(b",\"shared\":", self.shared as u64),
-            Then(near, first),
+        let shared = (",\"shared\":", Number(self.shared));
+        let near = (",\"nearly_shared\":", Number(self.near));
+        (
+            shared,
+            near,
+            ",\"first_nearly_shared\":",
+            PairOrNull(self.first),
         )
-        .write(sink)
+            .write(sink)
     }
 }
 
@@ -323,12 +319,10 @@ impl<'a> Written for RoundingReport<'a> {
     ghost text = { λ r. line_text r };
 
     fn write<W: Sink>(&self, sink: &mut W) -> Result<(), WriteFault> {
-        let origins = Then(Text(b"{\"maps\":"), Listed(self.origins, &MapOrigins));
-        let outcomes = Then(Text(b",\"outcomes\":"), Listed(self.outcomes, &Outcomes));
-        let equal = Then(Text(b",\"equal\":"), Listed(self.equal, &EqualLists));
-        let lists = Then(origins, Then(outcomes, equal));
-        let counts = Then(self.joined, Then(self.shared, Text(b"}\n")));
-        Then(lists, counts).write(sink)
+        let origins = ("{\"maps\":", Listed(self.origins, &MapOrigins));
+        let outcomes = (",\"outcomes\":", Listed(self.outcomes, &Outcomes));
+        let equal = (",\"equal\":", Listed(self.equal, &EqualLists));
+        ((origins, outcomes, equal), self.joined, self.shared, "}\n").write(sink)
     }
 }
 
@@ -346,21 +340,21 @@ fn line_of<'a>(rounded: &'a Rounded, origins: &'a [MapOrigin]) -> RoundingReport
     }
 }
 
-/// Writes the report of maps, and its line's end, where it is asked for.
-pub fn write_report(
+/// The report of maps, and its line's end, where it is asked for, and then another text.
+///
+/// # Errors
+/// `OutOfMemory`.
+pub fn text_with_report<T: Written>(
     alloc: Global,
     reports: bool,
     rounded: &Rounded,
-    kept: &mut Kept,
-) -> Result<(), OutOfMemory>
-    ensures { OnOk result (TookAll (kept_seen kept.old) (kept_seen kept.new) (report_if reports rounded.now)) }
+    text: &T,
+) -> Result<Vec<u8>, OutOfMemory>
+    ensures { IfOk result (λ t. t.items ≡ report_if reports rounded.now ++ T.text text.now) }
 {
     if !reports {
-        return Ok(());
+        return to_bytes(alloc, text);
     }
     let origins = spelled_origins(alloc, rounded.origins.as_slice())?;
-    match line_of(rounded, origins.as_slice()).write(kept) {
-        Ok(()) => Ok(()),
-        Err(_) => Err(OutOfMemory),
-    }
+    to_bytes(alloc, &(line_of(rounded, origins.as_slice()), text))
 }

@@ -21,10 +21,10 @@ use Rattle.reading.specs.Plain.{Plain, PlainForm}
 use Rattle.reading.specs.declared.geometry.GeometryType.{GeometryType}
 use Rattle.reading.specs.declared.geometry.GeometryType.TheVariants.{Point, MultiPoint, LineString, MultiLineString, Polygon, MultiPolygon}
 use Rattle.chains.specs.Seen.{Info}
-use Rattle.topo_io.specs.Arcs.{known, line_list_faults, ring_list_faults, line_at, ring_at}
-use Rattle.topo_io.specs.Geometries.{body_form, shape_faults, shape_form, typed_faults_of, text_or_null, type_or_missing, geometry_by, geometry_type, geometry_faults, type_or_none, geometry_feature, layer_faults, layer_features}
-use Rattle.topo_io.specs.Limits.{limits_on, position_faults, position_of}
-use Rattle.topo_io.specs.Roots.{layers_in}
+use Rattle.topo_text.specs.Arcs.{known, line_list_faults, ring_list_faults, line_at, ring_at}
+use Rattle.topo_text.specs.Geometries.{body_form, shape_faults, shape_form, typed_faults_of, text_or_null, type_or_missing, geometry_by, geometry_type, geometry_faults, type_or_none, geometry_feature, layer_faults, layer_features}
+use Rattle.topo_text.specs.Limits.{limits_on, position_faults, position_of}
+use Rattle.topo_text.specs.Roots.{layers_in}
 use Rattle.round_trip.specs.Compact.Values.{list_data, id_data, properties_data}
 use Rattle.round_trip.proofs.CompactLemmas.Info.{id_faultless, id_means, properties_faultless, properties_mean}
 use Rattle.round_trip.proofs.CompactLemmas.Lists.{list_faultless, elements_are, elements_mean, map-same}

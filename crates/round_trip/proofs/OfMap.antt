@@ -38,7 +38,7 @@ use Rattle.topo.proofs.Stitched.{IsEntryOf, entries_of}
 use Rattle.topo.proofs.Positions.{same_points}
 use Rattle.topo_io.specs.TopologyText.{topology_text}
 use Rattle.topo_io.specs.Means.{Means}
-use Rattle.topo_io.specs.Roots.{grid_of_text, layers_of_text}
+use Rattle.topo_text.specs.Roots.{grid_of_text, layers_of_text}
 use Rattle.round_trip.specs.Laws.{IsHeldOf, WrittenTopologiesAreRead, OneMapOfAText}
 use Rattle.topo_io.proofs.Entries.{names_ascend, meant, holds_layers}
 use Rattle.round_trip.proofs.Fit.{shape_places, feature_fits, chain_long, chain_fits, box_is_valid}

@@ -15,9 +15,9 @@ use Rattle.reading.specs.Fault.{under, unless_faulty}
 use Rattle.reading.specs.Parts.{elements}
 use Rattle.reading.specs.Scan.{scan_faults}
 use Rattle.reading.proofs.Positions.{position_itself}
-use Rattle.topo_io.specs.Arcs.{steps_faults, short_faults, arc_faults, places_from, arc_of, arcs_of}
-use Rattle.topo_io.specs.Limits.{limits_on, limit_faults, Sums, sums_at, step_faults, next_sums, moved, place_of, position_faults, position_of}
-use Rattle.topo_io.specs.Roots.{within_faults, scale_faults, translate_faults, both_numbers}
+use Rattle.topo_text.specs.Arcs.{steps_faults, short_faults, arc_faults, places_from, arc_of, arcs_of}
+use Rattle.topo_text.specs.Limits.{limits_on, limit_faults, Sums, sums_at, step_faults, next_sums, moved, place_of, position_faults, position_of}
+use Rattle.topo_text.specs.Roots.{within_faults, scale_faults, translate_faults, both_numbers}
 use Rattle.round_trip.specs.Compact.Good.{Good}
 use Rattle.shapes.specs.Ids.{IsI64}
 use Rattle.round_trip.specs.Compact.Values.{integer, list_data, pair_data}

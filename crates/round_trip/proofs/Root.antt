@@ -12,9 +12,9 @@ use Rattle.reading.specs.Parts.{list_faults, there, typed_faults, named, type_or
 use Rattle.reading.specs.Plain.{Plain}
 use Rattle.reading.specs.Text.{document, text_faults}
 use Rattle.topo.specs.OfMap.{Seen}
-use Rattle.topo_io.specs.Arcs.{Arcs, known, arc_faults}
-use Rattle.topo_io.specs.Limits.{limits_on}
-use Rattle.topo_io.specs.Roots.{transform_faults, transform_of, limits_by, limits_of, arcs_by, arcs_in, objects_faults, content_faults, transformed_faults, topology_named, topology_faults, layers_if_object, layers_of, grid_of, faults_of_text, grid_of_text, layers_of_text, grid_or_unit, layers_or_none}
+use Rattle.topo_text.specs.Arcs.{Arcs, known, arc_faults}
+use Rattle.topo_text.specs.Limits.{limits_on}
+use Rattle.topo_text.specs.Roots.{transform_faults, transform_of, limits_by, limits_of, arcs_by, arcs_in, objects_faults, content_faults, transformed_faults, topology_named, topology_faults, layers_if_object, layers_of, grid_of, faults_of_text, grid_of_text, layers_of_text, grid_or_unit, layers_or_none}
 use Rattle.topo_io.specs.TopologyText.{topology_text}
 use Rattle.round_trip.specs.Compact.Values.{list_data}
 use Rattle.round_trip.proofs.CompactLemmas.Documents.{document_is_read}

@@ -13,8 +13,8 @@ use Rattle.theory.proofs.Lists.{append_nil, last_join}
 use Rattle.reading.specs.Fault.{unless_faulty}
 use Rattle.reading.specs.Numbers.{whole_of}
 use Rattle.reading.specs.Parts.{list_faults}
-use Rattle.topo_io.specs.Arcs.{known, no_arc_faults, index_faults, used_arc, used_arcs, same_as, meets, stitched_onto, stitched, stitched_faults, stitching_faults, stitched_of, list_or_none}
-use Rattle.topo_io.proofs.Indexes.{number_of_index, along_index}
+use Rattle.topo_text.specs.Arcs.{known, no_arc_faults, index_faults, used_arc, used_arcs, same_as, meets, stitched_onto, stitched, stitched_faults, stitching_faults, stitched_of, list_or_none}
+use Rattle.topo_text.proofs.Indexes.{number_of_index, along_index}
 use Rattle.topo_io.proofs.Stitching.{stitched_passed}
 use Rattle.topo_io.proofs.Stitched.{meets_last}
 use Rattle.round_trip.specs.Compact.Good.{Good}

@@ -1,24 +1,16 @@
 -- Texts with commas between them.
-use Rattle.std.proofs.Common.{◌≡◌, ℕ, List, [], ◌∷◌, ◌++◌, Bool, true, false, refl, ap, append_assoc, sym, ◌∙◌}
-use Rattle.rounded_maps.specs.Written.{is_after, text_behind, texts_behind}
+use Rattle.std.proofs.Common.{◌≡◌, ◌||◌, ℕ, List, [], ◌∷◌, ◌++◌, Bool, true, false, codes, length, map, refl, ap, append_assoc, sym, ◌∙◌}
+use Rattle.std.specs.Prelude.{nat_lt}
+use Rattle.sinks.specs.Texts.{behind_texts}
+use Rattle.rounded_maps.specs.Written.{texts_behind}
 
--- the first of them
-pub one_behind : (b : Bool) (x : List ℕ) (xs : List (List ℕ)) → texts_behind b (x ∷ xs) ≡ text_behind b x ++ texts_behind true xs
-one_behind false x xs = refl
-one_behind true x xs = refl
+behind_true : {T : Type 0} (f : T → List ℕ) (xs : List T) (ys : List (List ℕ)) → texts_behind true (map f xs ++ ys) ≡ behind_texts (codes ",") true f xs ++ texts_behind true ys
+behind_true f [] ys = refl
+behind_true f (x ∷ xs) ys = ap (λ t. (codes "," ++ f x) ++ t) (behind_true f xs ys) ∙ sym (append_assoc (codes "," ++ f x) (behind_texts (codes ",") true f xs) (texts_behind true ys))
 
-after_both : (xs ys : List (List ℕ)) → texts_behind true (xs ++ ys) ≡ texts_behind true xs ++ texts_behind true ys
-after_both [] ys = refl
-after_both (x ∷ xs) ys =
-    ap (λ t. text_behind true x ++ t) (after_both xs ys) ∙ sym (append_assoc (text_behind true x) (texts_behind true xs) (texts_behind true ys))
-
-pub after_some : (xs : List (List ℕ)) → is_after true xs ≡ true
-after_some [] = refl
-after_some (x ∷ xs) = refl
-
--- some of them, and the others
-pub both_behind : (b : Bool) (xs ys : List (List ℕ)) → texts_behind b (xs ++ ys) ≡ texts_behind b xs ++ texts_behind (is_after b xs) ys
-both_behind false [] ys = refl
-both_behind false (x ∷ xs) ys = ap (λ t. x ++ t) (after_both xs ys) ∙ sym (append_assoc x (texts_behind true xs) (texts_behind true ys))
-both_behind true [] ys = refl
-both_behind true (x ∷ xs) ys = after_both (x ∷ xs) ys
+-- the texts of some values, and others behind them
+pub both_behind : {T : Type 0} (f : T → List ℕ) (b : Bool) (xs : List T) (ys : List (List ℕ)) → texts_behind b (map f xs ++ ys) ≡ behind_texts (codes ",") b f xs ++ texts_behind (b || nat_lt 0 (length xs)) ys
+both_behind f false [] ys = refl
+both_behind f false (x ∷ xs) ys = ap (λ t. f x ++ t) (behind_true f xs ys) ∙ sym (append_assoc (f x) (behind_texts (codes ",") true f xs) (texts_behind true ys))
+both_behind f true [] ys = refl
+both_behind f true (x ∷ xs) ys = behind_true f (x ∷ xs) ys

@@ -1,5 +1,5 @@
 -- The text of the features of a map as a FeatureCollection [RFC 7946, 3.3].
-use Rattle.std.specs.Prelude.{ℕ, ℤ, pos, List, [], ◌∷◌, ◌++◌, Bool, true, false, map, codes}
+use Rattle.std.specs.Prelude.{ℕ, ℤ, pos, List, ◌++◌, Bool, true, false, map, codes}
 use Rattle.fixing.specs.declared.feature.FixedFeature.{FixedFeature}
 use Rattle.geojson_io.specs.CollectionText.{feature_frame, shape_text}
 use Rattle.grid.specs.Place.{Transform, scaling, transform}
@@ -21,20 +21,10 @@ feature_text t f s = feature_frame f.id (properties_text f.props) (shape_text t 
 abbrev pub feature_texts : Transform → RoundedFeature → List (List ℕ)
 feature_texts t r = map (feature_text t r.feature) r.feature.shapes.items
 
--- a text behind others, if there are any
-abbrev pub text_behind : Bool → List ℕ → List ℕ
-text_behind false text = text
-text_behind true text = codes "," ++ text
-
 -- texts with commas between them, and one in front where others are before
 abbrev pub texts_behind : Bool → List (List ℕ) → List ℕ
 texts_behind false texts = joined (λ text. text) texts
 texts_behind true texts = after_commas (λ text. text) texts
-
--- whether any text is before what comes behind these
-abbrev pub is_after : Bool → List (List ℕ) → Bool
-is_after b [] = b
-is_after b (text ∷ texts) = true
 
 -- all features, in their order
 abbrev pub map_text : Transform → List RoundedFeature → List ℕ

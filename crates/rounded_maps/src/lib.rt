@@ -18,7 +18,7 @@ pub mod source;
 
 pub use all_faults::text_faults;
 pub use building::{BuildRules, MapsFault, Rounded, build_maps, round_maps};
-pub use collection::{collection_text, write_collection};
+pub use collection::{CollectionText, write_collection};
 pub use equal::EqualFeatures;
 pub use files::Origin;
 pub use map::{RoundedFeature, RoundedMap};

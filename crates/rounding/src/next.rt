@@ -2,9 +2,8 @@
 use crate::report::{LineFault, Report};
 use crate::shell::put_shell_word;
 use crate::target::Target;
-use command_line::refusal::put_words;
-use itoa::Buffer;
-use sinks::{Kept, put};
+use sinks::written::{Number, Written};
+use sinks::{Kept, to_bytes};
 use std::alloc::{AllocError, Global};
 
 /// A layer and its file, as a word for a shell.
@@ -17,20 +16,15 @@ fn put_layer(
     let Ok(Some(file)) = target.file(alloc, name) else {
         return Err(LineFault);
     };
-    let mut word = Kept::new(alloc);
-    put_words(&mut word, name, "=")?;
-    put(&mut word, file.as_bytes())?;
-    put(lines, b" ")?;
-    Ok(put_shell_word(lines, word.into_bytes().as_slice())?)
+    let word = to_bytes(alloc, &(name, "=", file.as_str()))?;
+    " ".write(lines)?;
+    Ok(put_shell_word(lines, word.as_slice())?)
 }
 
 /// The command to go on with: `topotool build --grid 1,1,0,0 provinces=out/provinces.json`.
 fn put_next(alloc: Global, lines: &mut Kept, report: &Report<'_, '_>) -> Result<(), LineFault> {
-    let mut units = Buffer::new();
-    let units = units.format(report.options.units);
-    put(lines, b"topotool build --grid ")?;
-    put_words(lines, units, ",")?;
-    put_words(lines, units, ",0,0")?;
+    let units = Number(report.options.units);
+    ("topotool build --grid ", units, ",", units, ",0,0").write(lines)?;
     for layer in report.layers {
         put_layer(alloc, lines, &report.options.target, layer.name)?;
     }

@@ -4,14 +4,13 @@ use crate::columns::PrintedColumns;
 use crate::layers::MapLayer;
 use crate::next::next_command;
 use crate::options::GridOptions;
-use command_line::refusal::put_words;
 use faults::OutOfMemory;
 use fixing::Fixes;
 use grid::Pos;
-use itoa::Buffer;
 use numerals::Decimal;
 use rounded_maps::{EqualFeatures, Outcome, Rounded};
-use sinks::{Kept, Sink, WriteFault, put};
+use sinks::written::{If, Number, Written};
+use sinks::{Kept, Sink, WriteFault};
 use snapping::nearly_shared::{Clusters, VertexCounts};
 use std::alloc::{AllocError, AllocFailed, Global};
 use std::collections::BTreeMap;
@@ -81,19 +80,9 @@ pub(crate) fn at_most_u64(count: u128) -> u64 {
     u64::try_from(count).unwrap_or(u64::MAX)
 }
 
-fn put_count<E: Sink>(err: &mut E, count: u64, of: &str) -> Result<(), WriteFault> {
-    put(err, Buffer::new().format(count).as_bytes())?;
-    put_words(err, " ", of)
-}
-
 /// A count that is not 0, on a line of its own.
 fn put_some<E: Sink>(err: &mut E, count: u64, of: &str) -> Result<(), WriteFault> {
-    if count == 0 {
-        return Ok(());
-    }
-    put(err, b"  ")?;
-    put_count(err, count, of)?;
-    put(err, b"\n")
+    If(count > 0, ("  ", Number(count), " ", of, "\n")).write(err)
 }
 
 /// The text of a distance, empty where it has too many digits.
@@ -135,14 +124,14 @@ fn put_moves(
     }
     let steps = in_steps(alloc, outcome)?;
     let units = in_units(alloc, outcome, options)?;
-    put(lines, b"  ")?;
-    put_count(lines, outcome.tally.moved, "positions moved, by at most ")?;
-    put_words(lines, steps.as_str(), " steps")?;
-    if !units.as_str().is_empty() {
-        put_words(lines, " (", units.as_str())?;
-        put(lines, b")")?;
-    }
-    Ok(put(lines, b"\n")?)
+    let moved = (
+        "  ",
+        Number(outcome.tally.moved),
+        " positions moved, by at most ",
+        &steps,
+    );
+    let units = If(!units.as_str().is_empty(), (" (", &units, ")"));
+    Ok((moved, " steps", units, "\n").write(lines)?)
 }
 
 /// A kind of what is fixed.
@@ -183,16 +172,14 @@ fn put_fixed<E: Sink>(err: &mut E, outcome: &Outcome, kind: FixKind) -> Result<(
     if count == 0 {
         return Ok(());
     }
-    put(err, b"  ")?;
-    put_count(err, count, kind.words())?;
+    ("  ", Number(count), " ", kind.words()).write(err)?;
     for feature in outcome.fixed.as_slice() {
         if kind.count_of(feature.fixes) > 0 {
-            put(err, b", the first in feature ")?;
-            put(err, Buffer::new().format(feature.feature as u64).as_bytes())?;
+            (", the first in feature ", Number(feature.feature)).write(err)?;
             break;
         }
     }
-    put(err, b"\n")
+    "\n".write(err)
 }
 
 /// How many features equal others, and the first that does.
@@ -200,31 +187,28 @@ fn put_equal<E: Sink>(err: &mut E, equal: &EqualFeatures) -> Result<(), WriteFau
     let Some(first) = equal.features.first() else {
         return Ok(());
     };
-    put(err, b"  ")?;
-    put_count(
-        err,
-        equal.features.len() as u64,
-        "features equal to others, the first is feature ",
-    )?;
-    put(err, Buffer::new().format(*first as u64).as_bytes())?;
-    put(err, b"\n")
+    let count = Number(equal.features.len());
+    let first = Number(*first);
+    (
+        "  ",
+        count,
+        " features equal to others, the first is feature ",
+        first,
+        "\n",
+    )
+        .write(err)
 }
 
 /// The file of a map, and the layer where the text names it.
 fn put_origin<E: Sink>(err: &mut E, layer: &MapLayer<'_>) -> Result<(), WriteFault> {
-    put(err, layer.file.as_bytes())?;
-    if layer.is_named_by_text {
-        put_words(err, ", layer ", layer.name)?;
-    }
-    put(err, b": ")
+    let name = If(layer.is_named_by_text, (", layer ", layer.name));
+    (layer.file, name, ": ").write(err)
 }
 
 /// The columns of numbers, each with how many texts it has.
 fn put_columns<E: Sink>(err: &mut E, numbers: &BTreeMap<String, u64>) -> Result<(), WriteFault> {
     for (name, count) in numbers {
-        put(err, b"  ")?;
-        put_count(err, *count, "texts in column ")?;
-        put_words(err, name.as_str(), "\n")?;
+        ("  ", Number(*count), " texts in column ", name, "\n").write(err)?;
     }
     Ok(())
 }
@@ -240,9 +224,12 @@ fn put_outcome(
 ) -> Result<(), LineFault> {
     let options = report.options;
     put_origin(lines, layer)?;
-    put_count(lines, outcome.features as u64, "features, ")?;
-    put_count(lines, outcome.tally.positions, "positions, step ")?;
-    put_words(lines, options.step_word, "\n")?;
+    let counts = (
+        Number(outcome.features),
+        " features, ",
+        Number(outcome.tally.positions),
+    );
+    (counts, " positions, step ", options.step_word, "\n").write(lines)?;
     put_moves(alloc, lines, outcome, options)?;
     put_some(lines, outcome.tally.heights, "heights dropped")?;
     put_some(lines, outcome.reals, "numbers made texts")?;
@@ -261,20 +248,13 @@ fn put_outcome(
     Ok(())
 }
 
-fn put_number<E: Sink>(err: &mut E, number: i64) -> Result<(), WriteFault> {
-    put(err, Buffer::new().format(number).as_bytes())
-}
-
-/// A position in units of the output.
-fn put_position<E: Sink>(
-    err: &mut E,
+/// A position in units of the output, as it is written.
+fn position_text(
     report: &Report<'_, '_>,
     position: Pos,
-) -> Result<(), WriteFault> {
+) -> (Number<i64>, &'static str, Number<i64>) {
     let (x, y) = report.in_units_of_output(position);
-    put_number(err, x)?;
-    put(err, b",")?;
-    put_number(err, y)
+    (Number(x), ",", Number(y))
 }
 
 /// What was joined, and what was not.
@@ -283,17 +263,15 @@ fn put_clusters<E: Sink>(
     report: &Report<'_, '_>,
     clusters: &Clusters,
 ) -> Result<(), WriteFault> {
-    put_count(err, clusters.len() as u64, "vertices joined to others\n")?;
+    (Number(clusters.len()), " vertices joined to others\n").write(err)?;
     let Some(first) = clusters.first_wide() else {
         return Ok(());
     };
-    put_count(
-        err,
-        clusters.wide() as u64,
-        "clusters too wide to be joined, the first at ",
-    )?;
-    put_position(err, report, first)?;
-    put(err, b"\n")
+    let wide = (
+        Number(clusters.wide()),
+        " clusters too wide to be joined, the first at ",
+    );
+    (wide, position_text(report, first), "\n").write(err)
 }
 
 /// The pairs of nearly shared vertices of all files, with the first: `279 nearly shared vertices, the first at
@@ -306,24 +284,23 @@ fn put_pairs<E: Sink>(
     let Some((first, second)) = counts.first else {
         return Ok(());
     };
-    put_count(
-        err,
-        at_most_u64(counts.near),
-        "nearly shared vertices, the first at ",
-    )?;
-    put_position(err, report, first)?;
-    put(err, b" and ")?;
-    put_position(err, report, second)?;
-    put(err, b"\n")
+    let count = (
+        Number(at_most_u64(counts.near)),
+        " nearly shared vertices, the first at ",
+    );
+    let (first, second) = (position_text(report, first), position_text(report, second));
+    (count, first, " and ", second, "\n").write(err)
 }
 
 /// The vertices of all files.
 fn put_vertices<E: Sink>(err: &mut E, report: &Report<'_, '_>) -> Result<(), WriteFault> {
     let rounded = report.rounded;
     if let Some(counts) = &rounded.counts {
-        if counts.shared > 0 {
-            put_count(err, counts.shared as u64, "vertices shared\n")?;
-        }
+        If(
+            counts.shared > 0,
+            (Number(counts.shared), " vertices shared\n"),
+        )
+        .write(err)?;
     }
     if let Some(clusters) = &rounded.clusters {
         put_clusters(err, report, clusters)?;
@@ -354,7 +331,7 @@ fn put_without_maps<E: Sink>(err: &mut E, report: &Report<'_, '_>) -> Result<(),
         ": no objects\n"
     };
     for file in report.without_maps {
-        put_words(err, *file, end)?;
+        (*file, end).write(err)?;
     }
     Ok(())
 }
@@ -362,12 +339,12 @@ fn put_without_maps<E: Sink>(err: &mut E, report: &Report<'_, '_>) -> Result<(),
 /// The properties that the words scale and no feature has.
 fn put_absent<E: Sink>(err: &mut E, report: &Report<'_, '_>) -> Result<(), WriteFault> {
     for property in report.absent {
-        put_words(
-            err,
+        (
             "no feature has the property of --reals scale:",
             *property,
-        )?;
-        put(err, b"\n")?;
+            "\n",
+        )
+            .write(err)?;
     }
     Ok(())
 }
@@ -378,9 +355,7 @@ fn put_lines(alloc: Global, report: &Report<'_, '_>, lines: &mut Kept) -> Result
     put_absent(lines, report)?;
     put_vertices(lines, report)?;
     if let Some(next) = next_command(alloc, report)? {
-        put(lines, b"next: ")?;
-        put(lines, next.as_slice())?;
-        put(lines, b"\n")?;
+        ("next: ", next.as_slice(), "\n").write(lines)?;
     }
     put_back(alloc, lines, report)
 }

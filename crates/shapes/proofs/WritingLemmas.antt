@@ -1,3 +1,1 @@
-pub mod Joined
-pub mod Same
 pub mod Properties

@@ -1,11 +1,11 @@
--- The points, lines and rings of a geometry, and geometries of other lines and rings.
+-- The kind of a geometry, its points, lines and rings, and geometries of other lines and rings.
 use Rattle.std.specs.Prelude.{ℕ, List, [], ◌∷◌, codes, map}
 use Rattle.grid.specs.declared.pos.Pos.{Pos}
 use Rattle.theory.specs.Lists.{joined}
 use Rattle.shapes.specs.declared.form.Form.{Form}
 use Rattle.shapes.specs.declared.form.Form.TheVariants.{Null, Point, MultiPoint, Line, MultiLine, Polygon, MultiPolygon}
 
--- the kind of a geometry, by its name in GeoJSON [RFC 7946, 3.1]
+-- the name of a geometry's type, null for the null geometry [RFC 7946, 1.4]
 abbrev pub kind_name : {L R : Type 0} → Form L R → List ℕ
 kind_name Null = codes "null"
 kind_name (Point p) = codes "Point"

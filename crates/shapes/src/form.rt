@@ -40,7 +40,7 @@ impl<L: CopyIn, R: CopyIn> Form<L, R> {
 }
 
 impl<L, R> Form<L, R> {
-    /// The kind's name in GeoJSON (RFC 7946, section 3.1).
+    /// The name of its type (RFC 7946, section 1.4); `null` for the null geometry.
     pub fn kind_name(&self) -> &'static str
         ensures { result.now ≡ kind_name self.now }
     {

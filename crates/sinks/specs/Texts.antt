@@ -1,5 +1,5 @@
 -- Texts put together of texts.
-use Rattle.std.specs.Prelude.{ℕ, ℤ, List, [], ◌∷◌, ◌++◌, codes, Option, Some, None}
+use Rattle.std.specs.Prelude.{ℕ, ℤ, Bool, true, List, [], ◌∷◌, ◌++◌, codes, cond, decimal, nat_eq, Option, Some, None}
 use Rattle.std.specs.Fmt.{signed_decimal}
 
 -- nothing, or the text of the value [RFC 8259]
@@ -41,3 +41,17 @@ framed f head xs tail = head ++ (joined f xs ++ tail)
 -- two numbers in brackets [RFC 8259]
 abbrev pub pair_text : ℤ → ℤ → List ℕ
 pair_text x y = bracketed (signed_decimal x ++ (codes "," ++ signed_decimal y))
+
+-- how many there are, and the words for one or for many
+abbrev pub counted_text : ℕ → List ℕ → List ℕ → List ℕ
+counted_text n one many = decimal n ++ cond (nat_eq n 1) one many
+
+-- the texts of some values in order, one behind another
+abbrev pub each_text : {T : Type 0} → (T → List ℕ) → List T → List ℕ
+each_text f [] = []
+each_text f (x ∷ xs) = f x ++ each_text f xs
+
+-- the texts of some values in order, each behind the separator where others are before it
+abbrev pub behind_texts : {T : Type 0} → List ℕ → Bool → (T → List ℕ) → List T → List ℕ
+behind_texts separator is_behind f [] = []
+behind_texts separator is_behind f (x ∷ xs) = (cond is_behind separator [] ++ f x) ++ behind_texts separator true f xs

@@ -1,6 +1,6 @@
 //! GeoJSON texts as they are read and written: their faults, what their members mean, and what is written of them.
 use crate::printed::fault_lines;
-use geojson_io::token_reader::read_features;
+use geojson_io::token_reader::{TextRead, read_features};
 use geojson_io::{faults, read, write};
 use grid::{Grid, Pos};
 use shapes::{Feature, Id, Items, Ring, Shape};
@@ -173,10 +173,10 @@ fn is_taken(
     let (first, second) = members;
     let text = format!(in alloc; "{{\"type\":\"{kind}\",{first},{second}}}")?;
     match read_features(alloc, text.as_bytes(), &grid(UNIT)?) {
-        Ok(features) => Ok(
+        Ok(TextRead::Read(features)) => Ok(
             matches!(features.as_slice(), [feature] if is_wanted(feature, has_info)),
         ),
-        Err(_) => Ok(false),
+        _ => Ok(false),
     }
 }
 
@@ -192,9 +192,22 @@ fn foreign_members_are_passed_over(rt: HostRuntime) -> Result<(), Fail> {
     Ok(())
 }
 
-/// Texts of which the last type counts, or a foreign member comes before the type.
+/// A text of which the last type counts, whose members come behind it.
+const LAST_TYPE: &str = r#"{"type":"Point","features":5,"type":"FeatureCollection","features":[{"type":"Feature","id":7,"properties":{"a":1},"geometry":{"type":"Point","coordinates":[1,2]}}]}"#;
+
+#[test]
+fn last_type_counts(rt: HostRuntime) -> Result<(), Fail> {
+    match read_features(rt.alloc(), LAST_TYPE.as_bytes(), &grid(UNIT)?) {
+        Ok(TextRead::Read(features)) => {
+            assert!(rt; matches!(features.as_slice(), [feature] if is_wanted(feature, true)));
+        }
+        _ => assert!(rt; false),
+    }
+    Ok(())
+}
+
+/// Texts of which the last type counts, whose members come before it, or with a foreign member before the type.
 const LEFT: &[(&str, bool)] = rows! {
-    r#"{"type":"Point","features":5,"type":"FeatureCollection","features":[{"type":"Feature","id":7,"properties":{"a":1},"geometry":{"type":"Point","coordinates":[1,2]}}]}"#, true;
     r#"{"type":"FeatureCollection","id":7,"properties":{"a":1},"geometry":{"type":"Point","coordinates":[1,2]},"type":"Feature"}"#, true;
     r#"{"type":"FeatureCollection","features":[],"coordinates":[1,2],"type":"Point"}"#, false;
     r#"{"type":"Feature","coordinates":[1,2],"id":0.5,"type":"Point"}"#, false;
@@ -211,9 +224,9 @@ fn is_read(alloc: Global, text: &str, has_info: bool) -> Result<bool, Fail> {
 #[test]
 fn texts_left_to_the_value(rt: HostRuntime) -> Result<(), Fail> {
     for (text, has_info) in LEFT {
-        let is_along_tokens = read_features(rt.alloc(), text.as_bytes(), &grid(UNIT)?).is_ok();
+        let is_left = read_features(rt.alloc(), text.as_bytes(), &grid(UNIT)?).is_err();
         assert!(rt;
-            !is_along_tokens && is_read(rt.alloc(), *text, *has_info)?,
+            is_left && is_read(rt.alloc(), *text, *has_info)?,
             "{text}"
         );
     }

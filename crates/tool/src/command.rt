@@ -88,7 +88,7 @@ fn write_made<'a, F: Files, O: Sink, E: Sink>(
     alloc: Global,
     name: &str,
     found: &ArgMatches<'a>,
-    made: &Made,
+    made: &Made<'a>,
     progress: &mut Progress<'_, F, E>,
     out: &mut O,
 ) -> Result<Status, Refusal<'a>> {
@@ -105,7 +105,7 @@ fn print_buffered<'a, W: Write + Drop>(
     alloc: Global,
     name: &str,
     found: &ArgMatches<'a>,
-    made: &Made,
+    made: &Made<'a>,
     output: W,
 ) -> Result<Status, Refusal<'a>> {
     let mut sink = Buffered::new(alloc, output, OUTPUT_BUFFER)?;
@@ -118,10 +118,10 @@ fn print_buffered<'a, W: Write + Drop>(
 
 /// What a command prints, or prints an answer about.
 #[derive(Drop)]
-enum Made {
+enum Made<'a> {
     Verdict(Checked),
     Compared(Compared),
-    Faults(Found),
+    Faults(Found<'a>),
     Topology(Topology),
 }
 
@@ -131,7 +131,7 @@ fn make<'a, F: Files>(
     name: &str,
     found: &ArgMatches<'a>,
     files: &mut F,
-) -> Result<Made, Refusal<'a>> {
+) -> Result<Made<'a>, Refusal<'a>> {
     if name == "check" {
         return Ok(Made::Verdict(check(alloc, found, files)?));
     }
@@ -149,7 +149,7 @@ fn print<'a, O: Sink>(
     alloc: Global,
     name: &str,
     found: &ArgMatches<'a>,
-    made: &Made,
+    made: &Made<'a>,
     out: &mut O,
 ) -> Result<Status, Refusal<'a>> {
     match made {

@@ -1,9 +1,9 @@
 //! What a run says of its progress on standard error, where it is asked to.
 use command_line::files::{FileFault, Files};
 use difference_text::ChangeCounts;
-use itoa::{Buffer, Integer};
 use query::count_arcs;
-use sinks::{Sink, WriteFault, put};
+use sinks::written::{Counted, If, Number, Written};
+use sinks::{Sink, WriteFault};
 use std::alloc::Global;
 use topo::Topology;
 
@@ -44,16 +44,16 @@ impl<'m, F: Files, E: Sink> Progress<'m, F, E> {
     pub(crate) fn report_check(&mut self) {
         if self.is_reported {
             let bytes = self.bytes;
-            let _ = self.put_stage("check", &[(bytes, "byte")]);
+            let _ = self.put_line("check", bytes_text(bytes));
         }
     }
 
     /// Reports that a topology was made.
     pub(crate) fn report_topology(&mut self, topology: &Topology) {
         if self.is_reported {
-            let positions = count_arcs(topology).positions.min(u128::from(u64::MAX)) as u64;
-            let counts = [(features_of(topology), "feature"), (positions, "position")];
-            let _ = self.put_stage("topology", &counts);
+            let features = Counted(u128::from(features_of(topology)), " feature", " features");
+            let positions = Counted(count_arcs(topology).positions, " position", " positions");
+            let _ = self.put_line("topology", (features, ", ", positions));
         }
     }
 
@@ -64,21 +64,23 @@ impl<'m, F: Files, E: Sink> Progress<'m, F, E> {
                 .added
                 .saturating_add(counts.removed)
                 .saturating_add(counts.changed);
-            let _ = self.put_stage("difference", &[(features as u64, "feature")]);
+            let features = Counted(features as u128, " feature", " features");
+            let _ = self.put_line("difference", features);
         }
     }
 
     /// Reports that so many errors were found.
     pub(crate) fn report_faults(&mut self, count: u64) {
         if self.is_reported {
-            let _ = self.put_stage("faults", &[(count, "error")]);
+            let errors = Counted(u128::from(count), " error", " errors");
+            let _ = self.put_line("faults", errors);
         }
     }
 
     /// Reports that so many bytes were printed.
     pub(crate) fn report_output(&mut self, bytes: u64) {
         if self.is_reported {
-            let _ = self.put_stage("output", &[(bytes, "byte")]);
+            let _ = self.put_line("output", bytes_text(bytes));
         }
     }
 
@@ -87,41 +89,24 @@ impl<'m, F: Files, E: Sink> Progress<'m, F, E> {
         let length = length as u64;
         self.bytes = self.bytes.saturating_add(length);
         if self.is_reported {
-            let _ = self.put_read(name, length);
+            let _ = self.put_line(("read ", name), bytes_text(length));
         }
     }
 
-    fn put_read(&mut self, name: &str, length: u64) -> Result<(), WriteFault> {
-        put(self.err, b"topotool: read ")?;
-        put(self.err, name.as_bytes())?;
-        put_count_of(self.err, ": ", length, "byte")?;
-        self.put_seconds()
-    }
-
-    /// A line of a stage and its counts. Positions are those of the arcs.
-    fn put_stage(&mut self, name: &str, counts: &[(u64, &str)]) -> Result<(), WriteFault> {
-        put(self.err, b"topotool: ")?;
-        put(self.err, name.as_bytes())?;
-        let mut before = ": ";
-        for (count, what) in counts {
-            put_count_of(self.err, before, *count, *what)?;
-            before = ", ";
-        }
-        self.put_seconds()
-    }
-
-    /// Ends a line with the seconds since the last one, where there is a clock.
-    fn put_seconds(&mut self) -> Result<(), WriteFault> {
+    /// A line of a stage and its counts, with the seconds since the last one, where there is a clock. Positions are those of
+    /// the arcs.
+    fn put_line<S: Written + Drop, C: Written + Drop>(
+        &mut self,
+        stage: S,
+        counts: C,
+    ) -> Result<(), WriteFault> {
         let now = self.files.milliseconds();
-        if let (Some(since), Some(now)) = (self.since, now) {
-            let took = now.saturating_sub(since);
-            put_count(self.err, ", ", took / 1000)?;
-            put(self.err, b".")?;
-            put_thousandths(self.err, took % 1000)?;
-            put(self.err, b" s")?;
-        }
+        let took = match (self.since, now) {
+            (Some(since), Some(now)) => Some(seconds(now.saturating_sub(since))),
+            _ => None,
+        };
         self.since = now;
-        put(self.err, b"\n")
+        ("topotool: ", stage, ": ", counts, took, "\n").write(self.err)
     }
 }
 
@@ -148,35 +133,25 @@ fn features_of(topology: &Topology) -> u64 {
     count
 }
 
-/// Writes a word, and then how many there are of something.
-fn put_count_of<E: Sink>(
-    err: &mut E,
-    before: &str,
-    count: u64,
-    what: &str,
-) -> Result<(), WriteFault> {
-    put_count(err, before, count)?;
-    put(err, b" ")?;
-    put(err, what.as_bytes())?;
-    if count == 1 {
-        return Ok(());
-    }
-    put(err, b"s")
+/// A number of bytes.
+fn bytes_text(count: u64) -> Counted<'static> {
+    Counted(u128::from(count), " byte", " bytes")
 }
 
-/// Writes a word, and then a number.
-fn put_count<E: Sink, N: Integer>(err: &mut E, word: &str, number: N) -> Result<(), WriteFault> {
-    put(err, word.as_bytes())?;
-    put(err, Buffer::new().format(number).as_bytes())
-}
+/// The text of a number of seconds, by three digits behind the point.
+type Seconds = (
+    &'static str,
+    Number<u64>,
+    &'static str,
+    Thousandths,
+    &'static str,
+);
 
-/// Writes a number below 1000 by three digits.
-fn put_thousandths<E: Sink>(err: &mut E, number: u64) -> Result<(), WriteFault> {
-    if number < 100 {
-        put(err, b"0")?;
-    }
-    if number < 10 {
-        put(err, b"0")?;
-    }
-    put_count(err, "", number)
+/// A number below 1000 by three digits.
+type Thousandths = (If<&'static str>, If<&'static str>, Number<u64>);
+
+fn seconds(milliseconds: u64) -> Seconds {
+    let left = milliseconds % 1000;
+    let thousandths = (If(left < 100, "0"), If(left < 10, "0"), Number(left));
+    (", ", Number(milliseconds / 1000), ".", thousandths, " s")
 }

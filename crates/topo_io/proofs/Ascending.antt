@@ -23,13 +23,13 @@ use Rattle.reading.specs.declared.geometry.GeometryType.{GeometryType}
 use Rattle.reading.specs.declared.geometry.GeometryType.TheVariants.{Point, MultiPoint, LineString, MultiLineString, Polygon, MultiPolygon}
 use Rattle.reading.specs.FaultLists.Ascending.{IsAscending}
 use Rattle.reading.proofs.FaultListsLemmas.Ascending.{IsBeyond, beyond_none, beyond_under, beyond_append, ascending_none, ascending_here, ascending_more, ascending_under, ascending_list, ascending_member, ascending_pair, ascending_unless, ascending_object, ascending_typed, ascending_element, ascending_outline, ascending_shape, ascending_info, ascending_scan, beyond_info}
-use Rattle.topo_io.specs.Limits.{Sums, sums_at, limit_faults, difference_faults, step_faults, next_sums, position_faults, allows}
-use Rattle.topo_io.specs.Arcs.{Arcs, unknown, counted, known, steps_faults, short_faults, arc_faults, no_arc_faults, index_faults, stitched, stitched_faults, used_arcs, stitching_faults, stitched_list_faults, line_list_faults, ring_list_faults}
-use Rattle.topo_io.specs.Geometries.{body_name, body_faults, typed_faults_of, geometry_type, geometry_faults, layer_type, typed_layer_faults, layer_faults}
-use Rattle.topo_io.specs.Roots.{within_faults, both_faults, scale_faults, translate_faults, transform_members, transform_faults, objects_faults, arcs_in, limits_of, transformed_faults, topology_named, topology_faults}
-use Rattle.topo_io.specs.declared.reader.position.Limits.{Limits}
-use Rattle.topo_io.specs.declared.reader.layer_type.LayerType.{LayerType}
-use Rattle.topo_io.specs.declared.reader.layer_type.LayerType.TheVariants.{Collection, Geometry}
+use Rattle.topo_text.specs.Limits.{Sums, sums_at, limit_faults, difference_faults, step_faults, next_sums, position_faults, allows}
+use Rattle.topo_text.specs.Arcs.{Arcs, unknown, counted, known, steps_faults, short_faults, arc_faults, no_arc_faults, index_faults, stitched, stitched_faults, used_arcs, stitching_faults, stitched_list_faults, line_list_faults, ring_list_faults}
+use Rattle.topo_text.specs.Geometries.{body_name, body_faults, typed_faults_of, geometry_type, geometry_faults, layer_type, typed_layer_faults, layer_faults}
+use Rattle.topo_text.specs.Roots.{within_faults, both_faults, scale_faults, translate_faults, transform_members, transform_faults, objects_faults, arcs_in, limits_of, transformed_faults, topology_named, topology_faults}
+use Rattle.topo_text.specs.declared.reader.position.Limits.{Limits}
+use Rattle.topo_text.specs.declared.reader.layer_type.LayerType.{LayerType}
+use Rattle.topo_text.specs.declared.reader.layer_type.LayerType.TheVariants.{Collection, Geometry}
 
 unless_one : (b : Bool) (ps : List Pair) → IsAscending ps → IsAscending (if b then [] else ps)
 unless_one true ps a = ascending_none

@@ -12,13 +12,13 @@ use Rattle.reading.specs.Plain.{Plain}
 use Rattle.topo.specs.Parts.{LayerParts}
 use Rattle.topo_io.specs.Layers.{plain_layer, layer_read, names_read, with_layers}
 use Rattle.topo_io.specs.Means.{Means}
-use Rattle.topo_io.specs.Parts.{layer_of_geoms, arcs_of_text, geoms_of_text, AreSaid}
-use Rattle.topo_io.specs.Roots.{faults_of_text, layers_of_text}
+use Rattle.topo_text.specs.Parts.{layer_of_geoms, arcs_of_text, geoms_of_text, AreSaid}
+use Rattle.topo_text.specs.Roots.{faults_of_text, layers_of_text}
 use Rattle.topo_io.specs.Stitching.{LayerStitches, layer_along}
 use Rattle.topo_io.proofs.Filling.{read_layers}
 use Rattle.topo_io.proofs.Known.{stitches_faultless, features_stitched}
 use Rattle.topo_io.proofs.Needed.{faultless_stitches}
-use Rattle.topo_io.proofs.Said.{firsts}
+use Rattle.topo_text.proofs.Said.{firsts}
 
 module _ (arcs : List (List Pos)) (ls : List LayerParts) where
   abbrev AllStitch : Type 0

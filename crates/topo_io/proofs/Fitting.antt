@@ -30,14 +30,14 @@ use Rattle.reading.proofs.Members.{member_there}
 use Rattle.reading.proofs.Plains.{layers_fit}
 use Rattle.reading.proofs.Positions.{clamped-same}
 use Rattle.reading.proofs.Shapes.{all_read, kind_fits}
-use Rattle.topo_io.specs.Arcs.{known, steps_faults, arc_faults, short_faults, places_from, arc_of, arcs_of, used_arc, used_arcs, line_list_faults, ring_list_faults, meets, onto, stitched_onto, list_or_none, stitched_of, line_at, ring_at}
-use Rattle.topo_io.specs.Geometries.{body_name, body_faults, body_form, shape_faults, shape_form, typed_faults_of, feature_of, geometry_type, geometry_faults, type_or_none, geometry_feature, layer_type, typed_layer_faults, layer_faults, layer_as, layer_features}
-use Rattle.topo_io.specs.Limits.{limits_on, limit_faults, difference_faults, Sums, sums_at, moved, moved_both, next_sums, step_faults, place_of, position_faults, position_of}
+use Rattle.topo_text.specs.Arcs.{known, steps_faults, arc_faults, short_faults, places_from, arc_of, arcs_of, used_arc, used_arcs, line_list_faults, ring_list_faults, meets, onto, stitched_onto, list_or_none, stitched_of, line_at, ring_at}
+use Rattle.topo_text.specs.Geometries.{body_name, body_faults, body_form, shape_faults, shape_form, typed_faults_of, feature_of, geometry_type, geometry_faults, type_or_none, geometry_feature, layer_type, typed_layer_faults, layer_faults, layer_as, layer_features}
+use Rattle.topo_text.specs.Limits.{limits_on, limit_faults, difference_faults, Sums, sums_at, moved, moved_both, next_sums, step_faults, place_of, position_faults, position_of}
 use Rattle.topo_io.specs.Means.{Means}
-use Rattle.topo_io.specs.Roots.{arcs_in, objects_faults, content_faults, layers_in, layers_if_object, layers_of, limits_of, transform_of, transform_faults, transformed_faults, topology_named, topology_faults, grid_of, grid_or_unit, layers_or_none, grid_of_text, layers_of_text}
-use Rattle.topo_io.specs.declared.reader.layer_type.LayerType.{LayerType}
-use Rattle.topo_io.specs.declared.reader.layer_type.LayerType.TheVariants.{Collection, Geometry}
-use Rattle.topo_io.proofs.Roots.{under_none, arcs_known, limits_known}
+use Rattle.topo_text.specs.Roots.{arcs_in, objects_faults, content_faults, layers_in, layers_if_object, layers_of, limits_of, transform_of, transform_faults, transformed_faults, topology_named, topology_faults, grid_of, grid_or_unit, layers_or_none, grid_of_text, layers_of_text}
+use Rattle.topo_text.specs.declared.reader.layer_type.LayerType.{LayerType}
+use Rattle.topo_text.specs.declared.reader.layer_type.LayerType.TheVariants.{Collection, Geometry}
+use Rattle.topo_text.proofs.Roots.{under_none, arcs_known, limits_known}
 
 -- ---- positions
 

@@ -1,5 +1,5 @@
 -- Lists that are judged by their arcs, and answers on lists item by item.
-use Rattle.std.proofs.Common.{◌≡◌, ◌↔◌, ◌<◌, ◌≤◌, ◌+◌, ◌-◌, ◌&&◌, ℕ, Bool, true, false, if◌then◌else◌, List, [], ◌∷◌, ◌++◌, drop, length, map, get_or, slice_get, is_some, Option, Some, None, refl, sym, ap, ◌∙◌, subst, arith}
+use Rattle.std.proofs.Common.{◌≡◌, ◌↔◌, ◌<◌, ◌+◌, ◌-◌, ◌&&◌, ℕ, Bool, true, false, if◌then◌else◌, List, [], ◌∷◌, ◌++◌, drop, length, map, get_or, slice_get, is_some, Option, Some, None, refl, sym, ap, ◌∙◌, subst, arith}
 use Rattle.std.proofs.lemmas.List.{drop_more}
 use Rattle.std.specs.List.{AllByRecursion}
 use Rattle.faults.specs.declared.fault.FaultKind.TheVariants.{Broken as BrokenFault}
@@ -17,15 +17,15 @@ use Rattle.theory.specs.ArcNumbers as numbers
 use Rattle.theory.specs.Lists.{last_of}
 use Rattle.theory.proofs.Lists.{last_join}
 use Rattle.normalize.specs.ArcLists.Lists.{AreBroken, SameFaults, StitchToFault, all_have_ends, has_ends_at}
-use Rattle.topo_io.specs.Arcs.{along, meets, same_as, stitched, stitched_faults, stitched_onto}
+use Rattle.topo_text.specs.Arcs.{along, meets, same_as, stitched, stitched_faults, stitched_onto}
 use Rattle.topo.specs.Parts.{LayerParts}
 use Rattle.topo.specs.declared.geom.Geom.{Geom}
-use Rattle.topo_io.specs.Parts.{layer_of_geoms, plain_geom}
+use Rattle.topo_text.specs.Parts.{layer_of_geoms, plain_geom}
 use Rattle.topo_io.specs.Stitching.{GeomStitches, LayerStitches}
 use Rattle.topo_io.specs.Validity.{fault_of, faults_as, used_faults}
 use Rattle.topo_io.specs.declared.validity.list.OutlineType.{OutlineType}
 use Rattle.topo_io.specs.declared.validity.list.OutlineType.TheVariants.{Line, Ring}
-use Rattle.topo_io.proofs.Each.{all_mapped}
+use Rattle.topo_text.proofs.Each.{all_mapped}
 use Rattle.topo_io.proofs.Stitched.{along_is, last_get, stitched_is}
 
 -- a list that is told to be sound has no fault

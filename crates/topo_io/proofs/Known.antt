@@ -17,15 +17,15 @@ use Rattle.reading.specs.Text.{document, text_faults}
 use Rattle.reading.proofs.Faultless.{under_none, first_none, second_none, unless_none}
 use Rattle.reading.specs.declared.geometry.GeometryType.{GeometryType}
 use Rattle.reading.specs.declared.geometry.GeometryType.TheVariants.{Point, MultiPoint, LineString, MultiLineString, Polygon, MultiPolygon}
-use Rattle.topo_io.specs.Arcs.{known, counted, arc_faults, arcs_of, used_arc, along, stitched, used_arcs, stitched_faults, list_or_none, index_faults, line_list_faults, ring_list_faults, line_at, ring_at}
-use Rattle.topo_io.specs.Geometries.{body_name, body_faults, body_form, shape_faults, shape_form, typed_faults_of, feature_of, geometry_type, geometry_faults, type_or_none, geometry_feature, layer_type, typed_layer_faults, layer_faults, layer_as}
-use Rattle.topo_io.specs.Parts.{ref_at, refs_of, body_at, body_in, geom_of, geometry_geom, geoms_as, layer_geoms, geoms_in, geoms_if_object, geoms_of, arc_count, loose_content, loose_transformed, loose_topology, loose_faults, arcs_or_none, arcs_of_text, geoms_or_none, geoms_of_text}
-use Rattle.topo_io.specs.Roots.{arcs_in, arcs_if_there, objects_faults, content_faults, transformed_faults, transform_faults, topology_named, topology_faults, limits_of, layers_in, layers_if_object, faults_of_text, layers_of_text, layers_or_none}
+use Rattle.topo_text.specs.Arcs.{known, counted, arc_faults, arcs_of, used_arc, along, stitched, used_arcs, stitched_faults, list_or_none, index_faults, line_list_faults, ring_list_faults, line_at, ring_at}
+use Rattle.topo_text.specs.Geometries.{body_name, body_faults, body_form, shape_faults, shape_form, typed_faults_of, feature_of, geometry_type, geometry_faults, type_or_none, geometry_feature, layer_type, typed_layer_faults, layer_faults, layer_as}
+use Rattle.topo_text.specs.Parts.{ref_at, refs_of, body_at, body_in, geom_of, geometry_geom, geoms_as, layer_geoms, geoms_in, geoms_if_object, geoms_of, arc_count, loose_content, loose_transformed, loose_topology, loose_faults, arcs_or_none, arcs_of_text, geoms_or_none, geoms_of_text}
+use Rattle.topo_text.specs.Roots.{arcs_in, arcs_if_there, objects_faults, content_faults, transformed_faults, transform_faults, topology_named, topology_faults, limits_of, layers_in, layers_if_object, faults_of_text, layers_of_text, layers_or_none}
 use Rattle.topo_io.specs.Stitching.{StitchToLine, StitchToRing, BodyStitches, GeomStitches, LayerStitches, line_along, ring_along, form_along, feature_along, layer_along}
-use Rattle.topo_io.specs.declared.reader.position.Limits.{Limits}
-use Rattle.topo_io.specs.declared.reader.layer_type.LayerType.{LayerType}
-use Rattle.topo_io.specs.declared.reader.layer_type.LayerType.TheVariants.{Collection, Geometry}
-use Rattle.topo_io.proofs.Roots.{array_known, append_none}
+use Rattle.topo_text.specs.declared.reader.position.Limits.{Limits}
+use Rattle.topo_text.specs.declared.reader.layer_type.LayerType.{LayerType}
+use Rattle.topo_text.specs.declared.reader.layer_type.LayerType.TheVariants.{Collection, Geometry}
+use Rattle.topo_text.proofs.Roots.{array_known, append_none}
 
 -- ---- lists and members
 

@@ -14,15 +14,15 @@ use Rattle.reading.specs.declared.geometry.GeometryType.{GeometryType}
 use Rattle.reading.specs.declared.geometry.GeometryType.TheVariants.{Point, MultiPoint, LineString, MultiLineString, Polygon, MultiPolygon}
 use Rattle.reading.proofs.Faultless.{under_none, first_none, second_none, unless_none_second, member_none, object_none, typed_none, text_none}
 use Rattle.reading.proofs.Shapes.{all_read}
-use Rattle.topo_io.specs.Arcs.{known, arc_faults, arcs_of, stitched, stitched_faults, stitching_faults, index_faults, line_list_faults, ring_list_faults}
-use Rattle.topo_io.specs.Geometries.{body_name, body_faults, shape_faults, typed_faults_of, geometry_type, geometry_faults, type_or_none, layer_type, typed_layer_faults, layer_faults}
-use Rattle.topo_io.specs.Parts.{refs_of, body_at, body_in, geom_of, geometry_geom, geoms_as, layer_geoms, geoms_in, geoms_if_object, geoms_of, arcs_or_none, arcs_of_text, geoms_or_none, geoms_of_text}
-use Rattle.topo_io.specs.Roots.{arcs_in, objects_faults, content_faults, transform_faults, transformed_faults, topology_named, topology_faults, limits_of, faults_of_text}
+use Rattle.topo_text.specs.Arcs.{known, arc_faults, arcs_of, stitched, stitched_faults, stitching_faults, index_faults, line_list_faults, ring_list_faults}
+use Rattle.topo_text.specs.Geometries.{body_name, body_faults, shape_faults, typed_faults_of, geometry_type, geometry_faults, type_or_none, layer_type, typed_layer_faults, layer_faults}
+use Rattle.topo_text.specs.Parts.{refs_of, body_at, body_in, geom_of, geometry_geom, geoms_as, layer_geoms, geoms_in, geoms_if_object, geoms_of, arcs_or_none, arcs_of_text, geoms_or_none, geoms_of_text}
+use Rattle.topo_text.specs.Roots.{arcs_in, objects_faults, content_faults, transform_faults, transformed_faults, topology_named, topology_faults, limits_of, faults_of_text}
 use Rattle.topo_io.specs.Stitching.{StitchToLine, StitchToRing, BodyStitches, GeomStitches, LayerStitches}
-use Rattle.topo_io.specs.declared.reader.layer_type.LayerType.{LayerType}
-use Rattle.topo_io.specs.declared.reader.layer_type.LayerType.TheVariants.{Collection, Geometry}
-use Rattle.topo_io.specs.declared.reader.position.Limits.{Limits}
-use Rattle.topo_io.proofs.Roots.{arcs_known}
+use Rattle.topo_text.specs.declared.reader.layer_type.LayerType.{LayerType}
+use Rattle.topo_text.specs.declared.reader.layer_type.LayerType.TheVariants.{Collection, Geometry}
+use Rattle.topo_text.specs.declared.reader.position.Limits.{Limits}
+use Rattle.topo_text.proofs.Roots.{arcs_known}
 use Rattle.topo_io.proofs.Known.{used_same}
 
 module _ (arcs : List (List Pos)) where

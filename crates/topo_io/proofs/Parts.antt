@@ -1,24 +1,61 @@
 -- The texts of a topology's parts, as they are written.
-use Rattle.std.proofs.Common.{◌≡◌, ℕ, ℤ, List, ◌++◌, sym, ap, ◌∙◌, codes, Option}
+use Rattle.std.proofs.Common.{◌≡◌, ℕ, ℤ, Bool, List, [], ◌++◌, refl, sym, ap, ◌∙◌, codes, cond, Option}
 use Rattle.grid.specs.Place.{Transform}
 use Rattle.grid.specs.declared.pos.Pos.{Pos}
 use Rattle.arcs.specs.Arcs.{Arcs}
-use Rattle.shapes.specs.Parts.{spelled_text}
+use Rattle.shapes.specs.Forms.{is_null, kind_name}
+use Rattle.shapes.specs.Parts.{properties_text, spelled_text}
 use Rattle.shapes.specs.Spelling.{spelling_of}
 use Rattle.shapes.specs.declared.spelled.Spelled.{Spelled}
+use Rattle.shapes.specs.declared.form.Form.TheVariants as of
+use Rattle.shapes.specs.Writing.Forms.{content_member, form_content}
+use Rattle.shapes.specs.Writing.Members.{id_text, properties_member}
 use Rattle.sinks.specs.Texts.{joined, list_text, option_text}
+use Rattle.topo.specs.Bodies.{Body}
 use Rattle.topo.specs.Parts.{Corners, LayerParts, TopologyParts}
-use Rattle.topo.specs.OfMap.{item_of, layer_of, seen_parts}
+use Rattle.topo.specs.OfMap.{body_of, item_of, layer_of, seen_parts}
 use Rattle.topo.specs.declared.geom.Geom.{Geom}
-use Rattle.arcs.specs.ArcTexts.{arc_text}
-use Rattle.topo_io.specs.TopologyText.{geometry_text, layer_text, bbox_text, transform_of, transform_text, topology_text}
-use Rattle.shapes.proofs.WritingLemmas.Joined.{joined_map, list_text_map}
+use Rattle.arcs.specs.ArcTexts.{arc_text, index_text, position_text}
+use Rattle.topo_io.specs.TopologyText.{content_text, geometry_text, layer_text, type_text, bbox_text, transform_of, transform_text, topology_text}
+use Rattle.sinks.proofs.Joined.{joined_map, list_text_map}
+
+-- what a geometry is made of, as it is written
+content_of : (b : Body) → cond (is_null b) [] (content_member (form_content position_text (list_text index_text) (list_text index_text) b) b ++ codes ",") ≡ content_text (body_of b)
+content_of of.Null = refl
+content_of (of.Point p) = refl
+content_of (of.MultiPoint ps) = refl
+content_of (of.Line used) = refl
+content_of (of.MultiLine ls) = refl
+content_of (of.Polygon rs) = refl
+content_of (of.MultiPolygon ps) = refl
+
+pub content_is : (b : Body) {n : Bool} → n ≡ is_null b → cond n [] (content_member (form_content position_text (list_text index_text) (list_text index_text) b) b ++ codes ",") ≡ content_text (body_of b)
+content_is b {n} e = ap (λ x. cond x [] (content_member (form_content position_text (list_text index_text) (list_text index_text) b) b ++ codes ",")) e ∙ content_of b
+
+-- the name of its type, and its end, as they are written
+type_of : (b : Body) → cond (is_null b) (codes "\"type\":null}") (codes "\"type\":\"" ++ (kind_name b ++ codes "\"}")) ≡ codes "\"type\":" ++ (type_text (body_of b) ++ codes "}")
+type_of of.Null = refl
+type_of (of.Point p) = refl
+type_of (of.MultiPoint ps) = refl
+type_of (of.Line used) = refl
+type_of (of.MultiLine ls) = refl
+type_of (of.Polygon rs) = refl
+type_of (of.MultiPolygon ps) = refl
+
+pub type_is : (b : Body) {n : Bool} → n ≡ is_null b → cond n (codes "\"type\":null}") (codes "\"type\":\"" ++ (kind_name b ++ codes "\"}")) ≡ codes "\"type\":" ++ (type_text (body_of b) ++ codes "}")
+type_is b {n} e = ap (λ x. cond x (codes "\"type\":null}") (codes "\"type\":\"" ++ (kind_name b ++ codes "\"}"))) e ∙ type_of b
+
+-- a geometry, of the text of its properties
+pub geometry_is : (g : Geom) {p : List ℕ} → p ≡ properties_text g.props
+    → codes "{" ++ (content_text (body_of g.body) ++ (id_text g.id ++ (properties_member p ++ (codes "\"type\":" ++ (type_text (body_of g.body) ++ codes "}"))))) ≡ geometry_text (item_of g)
+geometry_is g {p} e =
+    ap (λ x. codes "{" ++ (content_text (body_of g.body) ++ (id_text g.id ++ (properties_member x ++ (codes "\"type\":" ++ (type_text (body_of g.body) ++ codes "}")))))) e
 
 -- a layer's name and its geometries, as they are written
-pub layer_is : (l : LayerParts) {n m : List ℕ} {s : Spelled} {gs : List Geom} → n ≡ m → m ≡ spelling_of (spelled_text s) → s ≡ l.name → gs ≡ l.geometries
-    → n ++ (codes ":{\"geometries\":" ++ (list_text (λ g. geometry_text (item_of g)) gs ++ codes ",\"type\":\"GeometryCollection\"}")) ≡ layer_text (layer_of l)
-layer_is l {n} {m} {s} {gs} bytes spelled name e =
-    ap (λ x. x ++ (codes ":{\"geometries\":" ++ (list_text (λ g. geometry_text (item_of g)) gs ++ codes ",\"type\":\"GeometryCollection\"}"))) (bytes ∙ spelled ∙ ap (λ x. spelling_of (spelled_text x)) name)
+pub layer_is : (l : LayerParts) {s : Spelled} {gs : List Geom} → s ≡ l.name → gs ≡ l.geometries
+    → spelling_of (spelled_text s) ++ (codes ":{\"geometries\":" ++ (list_text (λ g. geometry_text (item_of g)) gs ++ codes ",\"type\":\"GeometryCollection\"}")) ≡ layer_text (layer_of l)
+layer_is l {s} {gs} name e =
+    ap (λ x. spelling_of (spelled_text x) ++ (codes ":{\"geometries\":" ++ (list_text (λ g. geometry_text (item_of g)) gs ++ codes ",\"type\":\"GeometryCollection\"}"))) name
     ∙ ap (λ t. spelling_of (spelled_text l.name) ++ (codes ":{\"geometries\":" ++ (t ++ codes ",\"type\":\"GeometryCollection\"}")))
     (ap (list_text (λ g. geometry_text (item_of g))) e ∙ sym (list_text_map geometry_text item_of l.geometries))
 

@@ -31,9 +31,9 @@ use Rattle.topo.specs.declared.geom.Geom.{Geom}
 use Rattle.normalize.proofs.Collapsing.{begins, ends, once, once_reversed}
 use Rattle.normalize.specs.Repeats.{AreWithoutRepeats, is_long, layer_long, long_arc, long_refs}
 use Rattle.validate.specs.Accept.Laws.{HaveI64}
-use Rattle.topo_io.specs.Arcs.{along, list_or_none, meets, onto, same_as, stitched, stitched_faults, stitched_onto}
+use Rattle.topo_text.specs.Arcs.{along, list_or_none, meets, onto, same_as, stitched, stitched_faults, stitched_onto}
 use Rattle.topo_io.specs.Means.{IsTopologyOver}
-use Rattle.topo_io.specs.Parts.{layer_of_geoms, plain_geom}
+use Rattle.topo_text.specs.Parts.{layer_of_geoms, plain_geom}
 use Rattle.topo_io.specs.Stitching.{BodyStitches, GeomStitches, LayerStitches, StitchToLine, StitchToRing, feature_along, form_along, layer_along, line_along, ring_along}
 use Rattle.topo_io.proofs.Stitched.{last_get}
 

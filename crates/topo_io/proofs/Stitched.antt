@@ -32,10 +32,10 @@ use Rattle.topo.specs.Parts.{LayerParts, TopologyParts}
 use Rattle.topo.specs.Bodies as bodies
 use Rattle.topo.specs.declared.geom.Geom.{Geom}
 use Rattle.topo.proofs.Pairs.{Pairwise-same}
-use Rattle.topo_io.specs.Arcs.{along, same_as, meets, stitched_onto, stitched, stitched_faults, list_or_none}
+use Rattle.topo_text.specs.Arcs.{along, same_as, meets, stitched_onto, stitched, stitched_faults, list_or_none}
 use Rattle.topo_io.specs.Layers.{with_layers}
 use Rattle.topo_io.specs.Means.{AreStitchedTo, IsTopologyOver, Means, MeansTopology}
-use Rattle.topo_io.specs.Parts.{plain_geom, layer_of_geoms, arcs_of_text, AreSaid}
+use Rattle.topo_text.specs.Parts.{plain_geom, layer_of_geoms, arcs_of_text, AreSaid}
 use Rattle.topo_io.specs.Stitching.{StitchToLine, StitchToRing, BodyStitches, GeomStitches, LayerStitches, line_along, ring_along, form_along, feature_along, layer_along}
 use Rattle.topo_io.proofs.Filling.{plain_of, names_of, are_layers}
 use Rattle.topo_io.proofs.Known.{stitches_faultless, features_stitched}

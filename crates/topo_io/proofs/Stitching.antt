@@ -1,5 +1,5 @@
 -- Arcs put one after the other.
-use Rattle.std.proofs.Common.{◌≡◌, ℕ, zero, suc, cond, slice_get, ◌<◌, ◌+◌, Bool, true, false, List, [], ◌∷◌, ◌++◌, length, map, drop, get_or, reverse, None, if◌then◌else◌, refl, ap, ◌∙◌, arith}
+use Rattle.std.proofs.Common.{◌≡◌, ℕ, zero, suc, cond, slice_get, ◌<◌, ◌+◌, Bool, true, false, List, [], ◌∷◌, ◌++◌, length, map, drop, get_or, reverse, None, if◌then◌else◌, refl, ap, ◌∙◌}
 use Rattle.std.proofs.lemmas.List.{reverse-append, drop_more}
 use Rattle.faults.specs.Fault.{Pair}
 use Rattle.faults.specs.declared.fault.Fault.{Fault}
@@ -7,11 +7,7 @@ use Rattle.faults.specs.declared.fault.FaultKind.TheVariants.{OutOfMemory, Broke
 use Rattle.grid.specs.declared.pos.Pos.{Pos}
 use Rattle.reading.specs.Fault.{LeastOrWant, here}
 use Rattle.theory.specs.ArcNumbers.{ArcRef}
-use Rattle.topo_io.specs.Arcs.{along, meets, onto, stitched_onto, stitched_faults}
-
-pub none_left : {X : Type 0} (c : List X) → length c ≡ 0 → c ≡ []
-none_left [] e = refl
-none_left (y ∷ c) e = absurd (omega (arith, e))
+use Rattle.topo_text.specs.Arcs.{along, meets, onto, stitched_onto, stitched_faults}
 
 pub onto_none : (l : List Pos) → l ≡ onto l []
 onto_none [] = refl

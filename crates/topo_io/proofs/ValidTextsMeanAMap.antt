@@ -25,10 +25,10 @@ use Rattle.validate.proofs.AcceptLemmas.PartsOfMaps.{layers_are_the_maps}
 use Rattle.validate.proofs.AcceptLemmas.StitchedMaps.{layers_make_a_map}
 use Rattle.topo_io.specs.Laws as law
 use Rattle.topo_io.specs.Means.{MeansTopology}
-use Rattle.topo_io.specs.Parts.{AreSaid, GeomStored, LayerStored, layer_of_geoms, plain_geom}
+use Rattle.topo_text.specs.Parts.{AreSaid, GeomStored, LayerStored, layer_of_geoms, plain_geom}
 use Rattle.topo_io.proofs.Entries.{holds_layers, meant}
 use Rattle.topo_io.proofs.Filling.{plain_of}
-use Rattle.topo_io.proofs.Said.{plain_stored}
+use Rattle.topo_text.proofs.Said.{plain_stored}
 use Rattle.topo_io.proofs.Stitched.{LayersStitchTo, features_named, said_means}
 
 -- ---- ids

@@ -15,8 +15,8 @@ use Rattle.validate.specs.Accept.Laws.{HaveI64, AreValidLayers}
 use Rattle.validate.specs.Accept.Order.{InOrder}
 use Rattle.validate.specs.Accept.Sorting.{AreReordered}
 use Rattle.topo_io.specs.Means.{Means}
-use Rattle.topo_io.specs.Parts.{AreSaid}
-use Rattle.topo_io.specs.Roots.{faults_of_text}
+use Rattle.topo_text.specs.Parts.{AreSaid}
+use Rattle.topo_text.specs.Roots.{faults_of_text}
 
 -- a text means at most one grid and one map
 abbrev pub OneMeaning : Type 0

@@ -7,8 +7,8 @@ use Rattle.shapes.specs.Maps.{Layers}
 use Rattle.reading.specs.Meant.{AreLayers}
 use Rattle.topo.specs.OfMap.{IsOf}
 use Rattle.topo.specs.Parts.{LayerParts, TopologyParts}
-use Rattle.topo_io.specs.Parts.{AreSaid, layer_of_geoms}
-use Rattle.topo_io.specs.Roots.{faults_of_text, grid_of_text, layers_of_text}
+use Rattle.topo_text.specs.Parts.{AreSaid, layer_of_geoms}
+use Rattle.topo_text.specs.Roots.{faults_of_text, grid_of_text, layers_of_text}
 use Rattle.topo_io.specs.Stitching.{LayerStitches, layer_along}
 
 -- an accepted text of a topology means its grid and the map of the features that its arcs stitch to [TopoJSON, 2]

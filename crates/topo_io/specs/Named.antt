@@ -1,5 +1,5 @@
 -- What is known of the arcs that indexes name.
-use Rattle.topo_io.specs.Arcs.{Arcs, unknown, counted, known}
+use Rattle.topo_text.specs.Arcs.{Arcs, unknown, counted, known}
 use Rattle.topo_io.specs.declared.validity.index.Named.{Named}
 use Rattle.topo_io.specs.declared.validity.index.Named.TheVariants as of
 

@@ -6,10 +6,8 @@ use Rattle.theory.specs.ArcNumbers.{ArcRef}
 use Rattle.theory.specs.Topology.{Body, null, point, points, line, lines, polygon, polygons}
 use Rattle.reading.specs.Outlines.{line_faults, ring_faults, line_of, ring_of}
 use Rattle.reading.specs.Plain.{Plain, PlainForm}
-use Rattle.topo_io.specs.Arcs.{along, stitched, stitched_faults, list_or_none}
-use Rattle.topo_io.specs.Parts.{PlainGeom}
-use Rattle.faults.specs.declared.fault.Fault.{Fault}
-use Rattle.faults.specs.declared.fault.FaultKind.TheVariants.{OutOfMemory}
+use Rattle.topo_text.specs.Arcs.{along, stitched, stitched_faults, list_or_none}
+use Rattle.topo_text.specs.Parts.{PlainGeom}
 
 -- the used arcs stitch to a list that is a line
 abbrev pub StitchToLine : List (List Pos) → List ArcRef → Type 0
@@ -36,10 +34,6 @@ GeomStitches arcs g = BodyStitches arcs g.body
 -- each list of a layer's geometries stitches to a line or a ring [TopoJSON, 2.1.4]
 abbrev pub LayerStitches : List (List Pos) → List ℕ × List PlainGeom → Type 0
 LayerStitches arcs l = AllByRecursion (GeomStitches arcs) l.1
-
--- it does not hold, or memory was refused
-pub record NotOrWant (A : Type 0) (f : Fault) : Type 0 where
-  pub not : (f.kind ≡ OutOfMemory → ⊥) → A → ⊥
 
 -- ---- meaning
 

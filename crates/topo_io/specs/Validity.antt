@@ -7,7 +7,7 @@ use Rattle.lines.specs.Turned.{position_cmp}
 use Rattle.lines.specs.declared.shape_fault.ShapeFault.{ShapeFault}
 use Rattle.reading.specs.Outlines.{outline_faults}
 use Rattle.theory.specs.ArcNumbers.{ArcRef}
-use Rattle.topo_io.specs.Arcs.{along, stitched, stitched_faults}
+use Rattle.topo_text.specs.Arcs.{along, stitched, stitched_faults}
 use Rattle.topo_io.specs.declared.validity.list.OutlineType.{OutlineType}
 use Rattle.topo_io.specs.declared.validity.list.OutlineType.TheVariants.{Line, Ring}
 

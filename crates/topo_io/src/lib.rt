@@ -1,20 +1,18 @@
 //! Texts of topologies in and out (TopoJSON, section 2).
 #![tactic(auto)]
 
+mod features;
 pub mod laws;
 mod other_forms;
-pub mod reader;
 pub mod same;
-mod token_reader;
+mod stitching;
 pub mod topology;
 mod validity;
 pub mod writer;
 
-pub use reader::parts::TextParts;
-pub use reader::parts::features::map_of_parts;
-pub use reader::read;
+pub use features::map_of_parts;
 pub use same::{is_canonical, is_text_of};
-pub use token_reader::read_parts;
-pub use topology::read_topology;
+pub use topo_text::{TextParts, read_parts};
+pub use topology::{read, read_parts_as_value, read_topology};
 pub use validity::faults;
-pub use writer::{text_of, write};
+pub use writer::{Canonical, text_of, write};

@@ -4,7 +4,7 @@ ghost use Rattle.std.specs.List.{AllByRecursion};
 ghost use Rattle.std.specs.Prelude.{◌<◌, ◌^◌, length, IfOk, IfSome};
 ghost use Rattle.validate.specs.Accept.Laws.{HaveI64};
 ghost use Rattle.topo_io.specs.Means.{IsTopologyOver};
-ghost use Rattle.topo_io.specs.Parts.{layer_of_geoms};
+ghost use Rattle.topo_text.specs.Parts.{layer_of_geoms};
 ghost use Rattle.topo_io.specs.Stitching.{LayerStitches};
 
 use faults::OutOfMemory;

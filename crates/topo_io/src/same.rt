@@ -10,7 +10,7 @@ ghost use Rattle.topo.specs.OfMap.{seen_parts};
 ghost use Rattle.topo_io.specs.Canon.{canon};
 ghost use Rattle.topo_io.specs.Front.{taken, is_next, may_have_failed, IsCommon};
 ghost use Rattle.topo_io.specs.Means.{Means};
-ghost use Rattle.topo_io.specs.Roots.{faults_of_text};
+ghost use Rattle.topo_text.specs.Roots.{faults_of_text};
 ghost use Rattle.topo_io.specs.TopologyText.{topology_text};
 
 use crate::topology::read_topology;

@@ -1,19 +1,15 @@
 //! Topologies in: the arcs and the layers of a text taken as they are, where they are valid, or once they are
-//! normalized.
+//! normalized, else built of features.
 ghost use Rattle.reading.specs.Fault.{LeastOrWant};
-ghost use Rattle.reading.specs.Text.{document as document_of};
-ghost use Rattle.serde_json.specs.View.{view};
-ghost use Rattle.std.specs.Prelude.{◌≡◌, ◌≢◌, ◌<◌, ◌^◌, ℕ, List, [], length, Some, IfOk, IfErr, IfSome, IfNone, OnOk};
+ghost use Rattle.shapes.specs.Fitting.{MapFits};
+ghost use Rattle.std.specs.Prelude.{◌≡◌, ◌≢◌, ◌<◌, ◌^◌, [], length, IfOk, IfErr, IfSome, IfNone, OnOk};
 ghost use Rattle.validate.specs.Accept.Laws.{HaveI64};
-ghost use Rattle.topo_io.specs.Means.{MeansTopology, IsTopologyOfParts, AreFaultyParts};
-ghost use Rattle.topo_io.specs.Parts.{AreSaid};
-ghost use Rattle.topo_io.specs.Roots.{faults_of_text};
+ghost use Rattle.topo_io.specs.Means.{Means, MeansTopology, IsTopologyOfParts, AreFaultyParts};
+ghost use Rattle.topo_text.specs.Parts.{AreSaid};
+ghost use Rattle.topo_text.specs.Roots.{faults_of_text, grid_of_text};
 
+use crate::features::map_of_parts;
 use crate::other_forms::topology_of_stitched;
-use crate::reader::parts::TextParts;
-use crate::reader::parts::features::map_of_parts;
-use crate::reader::read;
-use crate::token_reader::read_parts;
 use crate::validity::parts::layers_stitch;
 use crate::validity::{judge_root, judge_text};
 use faults::OutOfMemory;
@@ -23,9 +19,10 @@ use grid::transform::Grid;
 use lines::items::Items;
 use reading::document::document;
 use reading::tokens::from_tokens::Stop;
-use serde_json::Value;
+use shapes::feature_map::FeatureMap;
 use std::alloc::Global;
 use topo::{Layer, Topology};
+use topo_text::{TextParts, parts_of_value, read_parts};
 use validate::accept::{Accepted, take};
 
 // A list that doesn't stitch is a fault, but not where it stands: the text is read once more, and its
@@ -111,57 +108,22 @@ fn topology_or_fault(alloc: Global, bytes: &[u8], parts: TextParts) -> Result<To
     }
 }
 
-// The value of a text, or the text's least fault.
-fn value_of(alloc: Global, bytes: &[u8]) -> Result<Value, Fault>
-    ensures ok { IfOk result (λ v. document_of bytes.now ≡ Some (view v)) }
+/// The parts of a topology's text, read by way of its JSON value. The value is validated first, so that nothing is
+/// made of a text that has an error.
+///
+/// # Errors
+/// The first error of the text, by path and then by number; `OutOfMemory` at the root.
+pub fn read_parts_as_value(alloc: Global, bytes: &[u8]) -> Result<TextParts, Fault>
+    ensures ok { OnOk result (faults_of_text bytes.now ≡ []) }
+    ensures said { IfOk result (λ p. AreSaid bytes.now p.grid p.arcs.items p.layers.items) }
     ensures err { IfErr result (λ f. LeastOrWant (faults_of_text bytes.now) f) }
 {
     let value = document(alloc, bytes)?;
     judge_root(alloc, &value)?;
-    Ok(value)
-}
-
-// The parts of a text with that value, read along the tokens of the text that the value is written as: each
-// member is there once, and layers are in the order of their names. None where that text is not read so.
-fn parts_of_value(alloc: Global, value: Value) -> Result<Option<TextParts>, OutOfMemory>
-    ensures { IfOk result (λ o. IfSome o (λ p. (bytes : List ℕ) → document_of bytes ≡ Some (view value) → AreSaid bytes p.grid p.arcs.items p.layers.items)) }
-{
-    let text = value.to_string(alloc)?;
-    drop(value);
-    match read_parts(alloc, text.as_bytes()) {
-        Ok(parts) => Ok(Some(parts)),
-        Err(Stop::Unread) => Ok(None),
-        Err(Stop::OutOfMemory) => Err(OutOfMemory),
-    }
-}
-
-// The topology of a text, built of the features that its value means.
-fn built_of_value(alloc: Global, bytes: &[u8]) -> Result<Topology, Fault>
-    ensures ok { OnOk result (faults_of_text bytes.now ≡ []) }
-    ensures means { IfOk result (MeansTopology bytes.now) }
-    ensures few { IfOk result (λ t. length t.arcs.arcs < 2 ^ 63) }
-    ensures err { IfErr result (λ f. LeastOrWant (faults_of_text bytes.now) f) }
-{
-    let (grid, map) = read(alloc, bytes)?;
-    match Topology::build_owned(alloc, &grid, map) {
-        Ok(topology) => Ok(topology),
-        Err(OutOfMemory) => Err(Fault::here(alloc, FaultKind::OutOfMemory)),
-    }
-}
-
-// The topology of a text that is not read along its tokens, or the text's least fault: that of the text that
-// its value is written as, and where that is not read along its tokens either, of the features that it means.
-fn topology_of_value(alloc: Global, bytes: &[u8]) -> Result<Topology, Fault>
-    ensures ok { OnOk result (faults_of_text bytes.now ≡ []) }
-    ensures means { IfOk result (MeansTopology bytes.now) }
-    ensures few { IfOk result (λ t. length t.arcs.arcs < 2 ^ 63) }
-    ensures err { IfErr result (λ f. LeastOrWant (faults_of_text bytes.now) f) }
-{
-    let value = value_of(alloc, bytes)?;
-    match parts_of_value(alloc, value) {
-        Ok(Some(parts)) => topology_or_fault(alloc, bytes, parts),
-        Ok(None) => built_of_value(alloc, bytes),
-        Err(OutOfMemory) => Err(Fault::here(alloc, FaultKind::OutOfMemory)),
+    match parts_of_value(alloc, &value) {
+        Ok(parts) => Ok(parts),
+        // No error is left that a text may have.
+        Err(_) => Err(Fault::here(alloc, FaultKind::OutOfMemory)),
     }
 }
 
@@ -169,7 +131,7 @@ fn topology_of_value(alloc: Global, bytes: &[u8]) -> Result<Topology, Fault>
 /// and layers are those of that topology is taken as it is. Of others the arcs are noded and healed, without the
 /// positions that they repeat, the features put into order, and what comes of it is taken where it is valid: no
 /// feature is stitched. Of all others the topology is built, of the features that their arcs stitch to. A
-/// text is read along its tokens where it has a usual form, and else the text that its value is written as.
+/// text is read along its tokens where it has a usual form, and else by way of its value.
 ///
 /// # Errors
 /// The first error of the text, by path and then by number; `OutOfMemory` at the root.
@@ -181,7 +143,31 @@ pub fn read_topology(alloc: Global, bytes: &[u8]) -> Result<Topology, Fault>
 {
     match read_parts(alloc, bytes) {
         Ok(parts) => topology_or_fault(alloc, bytes, parts),
-        Err(Stop::Unread) => topology_of_value(alloc, bytes),
+        Err(Stop::Unread) => {
+            let parts = read_parts_as_value(alloc, bytes)?;
+            topology_or_fault(alloc, bytes, parts)
+        }
         Err(Stop::OutOfMemory) => Err(Fault::here(alloc, FaultKind::OutOfMemory)),
+    }
+}
+
+/// The grid of a topology's text, and its features: what its arcs stitch to (TopoJSON, section 2).
+///
+/// Only quantized topologies are read. Members that the standard does not name are ignored, and so
+/// is `bbox`.
+///
+/// # Errors
+/// The first error of the text, by path and then by number; `OutOfMemory` at the root.
+pub fn read(alloc: Global, bytes: &[u8]) -> Result<(Grid, FeatureMap), Fault>
+    ensures ok { OnOk result (faults_of_text bytes.now ≡ []) }
+    ensures grid { IfOk result (λ made. made.0 ≡ grid_of_text bytes.now) }
+    ensures means { IfOk result (λ made. Means bytes.now made.0 made.1) }
+    ensures fits { IfOk result (λ made. MapFits made.0 made.1) }
+    ensures err { IfErr result (λ f. LeastOrWant (faults_of_text bytes.now) f) }
+{
+    let topology = read_topology(alloc, bytes)?;
+    match topology.expand(alloc) {
+        Ok(map) => Ok((topology.grid(), map)),
+        Err(OutOfMemory) => Err(Fault::here(alloc, FaultKind::OutOfMemory)),
     }
 }

@@ -9,30 +9,21 @@ ghost use Rattle.reading.specs.Parts.{list_faults, member_faults};
 ghost use Rattle.serde_json.specs.Find.{get};
 ghost use Rattle.serde_json.specs.View.{view};
 ghost use Rattle.std.specs.Prelude.{◌≡◌, [], codes, IfErr, IfOk, IsTrue, OnOk, Some};
-ghost use Rattle.topo_io.specs.Arcs.{arc_faults};
+ghost use Rattle.topo_text.specs.Arcs.{arc_faults};
 ghost use Rattle.topo_io.specs.Named.{named};
-ghost use Rattle.topo_io.specs.Roots.{objects_faults, arcs_in, content_faults, limits_of as limits_of_transform, transform_faults, transformed_faults, topology_faults, faults_of_text};
-ghost use Rattle.topo_io.specs.declared.reader.position.Limits.{Limits as limits_type};
+ghost use Rattle.topo_text.specs.Roots.{objects_faults, arcs_in, content_faults, limits_of as limits_of_transform, transform_faults, transformed_faults, topology_faults, faults_of_text};
+ghost use Rattle.topo_text.specs.declared.reader.position.Limits.{Limits as limits_type};
 
-pub mod arc;
 pub mod geometry;
 pub mod index;
 pub mod layer;
 pub mod list;
 pub mod parts;
-pub mod position;
-pub mod transform;
 
-use crate::reader::arc::ArcOf;
-use crate::reader::position::Limits;
-use crate::reader::transform::read_transform;
-use crate::token_reader::read_parts;
-use crate::validity::arc::ArcIn;
 use crate::validity::index::Named;
 use crate::validity::layer::ObjectsIn;
 use crate::validity::list::Known;
 use crate::validity::parts::layers_stitch;
-use crate::validity::transform::judge_transform;
 use faults::OutOfMemory;
 use faults::fault::{Fault, FaultKind};
 use normalize::arc_lists::ArcLists;
@@ -47,6 +38,12 @@ use reading::part::{judge_type, read_list_member};
 use reading::tokens::from_tokens::Stop;
 use serde_json::Value;
 use std::alloc::Global;
+use topo_text::read_parts;
+use topo_text::reader::arc::ArcOf;
+use topo_text::reader::position::Limits;
+use topo_text::reader::transform::read_transform;
+use topo_text::validity::arc::ArcIn;
+use topo_text::validity::transform::judge_transform;
 
 /// Validates the member `objects`, by what is known of the arcs.
 fn judge_objects(

@@ -3,81 +3,47 @@
 ghost use Rattle.grid.specs.Place.{IsTransform};
 ghost use Rattle.sinks.specs.Texts.{option_text};
 ghost use Rattle.sinks.specs.Writes.{TookAll, TookPart};
-ghost use Rattle.std.specs.Prelude.{◌≡◌, List, ◌++◌, codes, IfOk, OnErr, OnOk};
+ghost use Rattle.std.specs.Prelude.{◌≡◌, ◌++◌, IfOk, OnErr, OnOk, codes};
 ghost use Rattle.topo.specs.OfMap.{body_of, item_of, layer_of, seen_parts};
 ghost use Rattle.topo_io.specs.TopologyText.{content_text, type_text, geometry_text, layer_text, bbox_text, transform_of, transform_text, topology_text};
 
 use arcs::writing::{ArcIndexes, ArcsText, PositionNumbers};
 use faults::OutOfMemory;
-use shapes::writing::{IdMember, Lists, PropertiesMember};
-use sinks::written::{
-    Bracketed, Each, Joined, Listed, Notation, Noted, Number, Pair, Text, Then, Written,
-};
-use sinks::{Kept, Sink, WriteFault};
+use shapes::writing::{ContentMember, FormContent, IdMember, KindName, Lists, PropertiesMember};
+use sinks::written::{Each, Listed, Notation, Numbers, OneOf, Pair, Written};
+use sinks::{Sink, WriteFault, to_bytes};
 use std::alloc::Global;
 use topo::geom::{Body, Geom};
 use topo::topology::{Layer, Topology};
 
-/// The member `coordinates` or `arcs` and a comma.
+/// What a geometry is made of, as a member and a comma; nothing for the null geometry.
 #[derive(Clone, Copy)]
-struct Content<'a, C>(&'a [u8], C);
+struct BodyMember<'a>(&'a Body);
 
-impl<'a, C: Written> Written for Content<'a, C> {
-    ghost text = { λ c. c.0.now ++ (C.text c.1 ++ codes ",") };
-
-    fn write<W: Sink>(&self, sink: &mut W) -> Result<(), WriteFault> {
-        Then(Text(self.0), Then(&self.1, Text(b","))).write(sink)
-    }
-}
-
-const COORDINATES: &[u8] = b"\"coordinates\":";
-
-const ARCS: &[u8] = b"\"arcs\":";
-
-/// What a geometry is made of; nothing for the null shape.
-#[derive(Clone, Copy)]
-struct ContentOf<'a>(&'a Body);
-
-impl<'a> Written for ContentOf<'a> {
+impl<'a> Written for BodyMember<'a> {
     ghost text = { λ c. content_text (body_of c.0.now) };
 
     fn write<W: Sink>(&self, sink: &mut W) -> Result<(), WriteFault> {
-        match self.0 {
-            Body::Null => Ok(()),
-            Body::Point(p) => Content(COORDINATES, Noted(p, &PositionNumbers)).write(sink),
-            Body::MultiPoint(ps) => Content(
-                COORDINATES,
-                Listed(ps.as_slice(), &PositionNumbers),
-            ).write(sink),
-            Body::Line(used) => Content(ARCS, Listed(used.as_slice(), &ArcIndexes)).write(sink),
-            Body::MultiLine(lines) => Content(
-                ARCS,
-                Listed(lines.as_slice(), &Lists(ArcIndexes)),
-            ).write(sink),
-            Body::Polygon(rings) => Content(
-                ARCS,
-                Listed(rings.as_slice(), &Lists(ArcIndexes)),
-            ).write(sink),
-            Body::MultiPolygon(polygons) => Content(
-                ARCS,
-                Listed(polygons.as_slice(), &Lists(Lists(ArcIndexes))),
-            ).write(sink),
-        }
+        let content = FormContent {
+            places: PositionNumbers,
+            lines: Lists(ArcIndexes),
+            rings: Lists(ArcIndexes),
+        };
+        let member = (ContentMember(self.0, &content), ",");
+        OneOf(self.0.is_null(), "", member).write(sink)
     }
 }
 
-/// The name of a geometry's type in quotes, or `null`.
-fn type_name(body: &Body) -> &'static [u8]
-    ensures { result.now ≡ type_text (body_of body.now) }
-{
-    match body {
-        Body::Null => b"null",
-        Body::Point(_) => b"\"Point\"",
-        Body::MultiPoint(_) => b"\"MultiPoint\"",
-        Body::Line(_) => b"\"LineString\"",
-        Body::MultiLine(_) => b"\"MultiLineString\"",
-        Body::Polygon(_) => b"\"Polygon\"",
-        Body::MultiPolygon(_) => b"\"MultiPolygon\"",
+/// The member `type` of a geometry, and its end.
+#[derive(Clone, Copy)]
+struct TypeMember<'a>(&'a Body);
+
+impl<'a> Written for TypeMember<'a> {
+    ghost text = { λ t. codes "\"type\":" ++ (type_text (body_of t.0.now) ++ codes "}") };
+
+    fn write<W: Sink>(&self, sink: &mut W) -> Result<(), WriteFault> {
+        let name = ("\"type\":\"", KindName(self.0), "\"}");
+        OneOf(self.0.is_null(), "\"type\":null}", name).write(sink)
     }
 }
 
@@ -89,15 +55,15 @@ impl Notation<Geom> for Geometries {
     ghost text = { λ _ g. geometry_text (item_of g) };
 
     fn write_value<W: Sink>(&self, value: &Geom, sink: &mut W) -> Result<(), WriteFault> {
-        let name = Then(
-            Text(b"\"type\":"),
-            Then(Text(type_name(&value.body)), Text(b"}")),
-        );
-        let members = Then(
-            IdMember(&value.id),
-            Then(PropertiesMember(&value.props), name),
-        );
-        Then(Text(b"{"), Then(ContentOf(&value.body), members)).write(sink)
+        let (id, properties) = (IdMember(&value.id), PropertiesMember(value.props.text()));
+        (
+            "{",
+            BodyMember(&value.body),
+            id,
+            properties,
+            TypeMember(&value.body),
+        )
+            .write(sink)
     }
 }
 
@@ -110,9 +76,8 @@ impl Notation<Layer> for Layers {
 
     fn write_value<W: Sink>(&self, value: &Layer, sink: &mut W) -> Result<(), WriteFault> {
         let geometries = Listed(value.geometries(), &Geometries);
-        let tail = Then(geometries, Text(b",\"type\":\"GeometryCollection\"}"));
-        let name = Text(value.name().spelling().as_bytes());
-        Then(name, Then(Text(b":{\"geometries\":"), tail)).write(sink)
+        let end = ",\"type\":\"GeometryCollection\"}";
+        (value.name(), ":{\"geometries\":", geometries, end).write(sink)
     }
 }
 
@@ -127,12 +92,8 @@ impl Written for BboxMember {
         let Some((west, south, east, north)) = self.0 else {
             return Ok(());
         };
-        let numbers = [Number(west), Number(south), Number(east), Number(north)];
-        Then(
-            Text(b"\"bbox\":"),
-            Then(Bracketed(Joined(&numbers)), Text(b",")),
-        )
-        .write(sink)
+        let numbers = [west, south, east, north];
+        ("\"bbox\":", Listed(&numbers, &Numbers), ",").write(sink)
     }
 }
 
@@ -146,12 +107,8 @@ impl Written for TransformMember {
     fn write<W: Sink>(&self, sink: &mut W) -> Result<(), WriteFault> {
         let (sx, sy) = self.0;
         let (tx, ty) = self.1;
-        let translate = Then(Text(b",\"translate\":"), Then(Pair(tx, ty), Text(b"}")));
-        Then(
-            Text(b"\"transform\":{\"scale\":"),
-            Then(Pair(sx, sy), translate),
-        )
-        .write(sink)
+        let translate = (",\"translate\":", Pair(tx, ty), "}");
+        ("\"transform\":{\"scale\":", Pair(sx, sy), translate).write(sink)
     }
 }
 
@@ -169,23 +126,18 @@ impl<'a> Written for Canonical<'a> {
     {
         let topology = self.0;
         let grid = topology.grid();
-        let transform = Then(
-            TransformMember(grid.scale(), grid.translate()),
-            Text(b",\"type\":\"Topology\"}"),
-        );
-        let objects = Then(
-            Each(topology.layers(), &Layers),
-            Then(Text(b"},"), transform),
-        );
-        let tail = Then(
+        let transform = TransformMember(grid.scale(), grid.translate());
+        (
+            "{\"arcs\":[",
+            ArcsText(topology.arcs()),
+            "],",
             BboxMember(topology.bbox()),
-            Then(Text(b"\"objects\":{"), objects),
-        );
-        Then(
-            Text(b"{\"arcs\":["),
-            Then(ArcsText(topology.arcs()), Then(Text(b"],"), tail)),
+            "\"objects\":{",
+            Each(topology.layers(), &Layers),
+            "},",
+            (transform, ",\"type\":\"Topology\"}"),
         )
-        .write(sink)
+            .write(sink)
     }
 }
 
@@ -209,9 +161,7 @@ pub fn text_of(alloc: Global, topology: &Topology) -> Result<Vec<u8>, OutOfMemor
     ensures text { IfOk result (λ t. t.items ≡ topology_text (seen_parts topology.now)) }
     ensures limits { IsTransform topology.now.grid }
 {
-    let mut kept = Kept::new(alloc);
-    match write(topology, &mut kept) {
-        Ok(()) => Ok(kept.into_bytes()),
-        Err(_) => Err(OutOfMemory),
-    }
+    // The grid is within its limits, as its scale says.
+    let _scale = topology.grid().scale();
+    to_bytes(alloc, &Canonical(topology))
 }

@@ -9,7 +9,7 @@ use shapes::shape::{Id, Shape};
 use shapes::spelled::Spelled;
 use shapes::writing::{IdMember, Lists};
 use shapes::{Items, Ring};
-use sinks::written::{Itself, Listed, Number, Written};
+use sinks::written::{Listed, Numbers, Written};
 use sinks::{Kept, WriteFault};
 use std::alloc::Global;
 use std::test::Fail;
@@ -388,19 +388,15 @@ fn values_that_are_no_properties(rt: HostRuntime) -> Result<(), Fail> {
     Ok(())
 }
 
-fn numbers(alloc: Global, list: &[i64]) -> Result<Items<Number>, Fail> {
-    let mut made = Vec::new(alloc);
-    for number in list {
-        made.push(Number(*number))?;
-    }
-    Ok(Items::from_vec(made))
+fn numbers(alloc: Global, list: &[i64]) -> Result<Items<i64>, Fail> {
+    Ok(Items::from_vec(Vec::from_slice(alloc, list)?))
 }
 
 #[test]
 fn lists_of_lists(rt: HostRuntime) -> Result<(), Fail> {
     let lists = [numbers(rt.alloc(), &[1, 2])?, numbers(rt.alloc(), &[])?];
     let mut kept = Kept::new(rt.alloc());
-    assert!(rt; Listed(&lists, &Lists(Itself)).write(&mut kept).is_ok());
+    assert!(rt; Listed(&lists, &Lists(Numbers)).write(&mut kept).is_ok());
     assert!(rt; kept.into_bytes().as_slice() == b"[[1,2],[]]".as_slice());
     Ok(())
 }

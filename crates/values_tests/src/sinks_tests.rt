@@ -1,23 +1,24 @@
 //! Texts written in pieces, and sinks that answer from a list, that keep, and that write.
 use sinks::written::{
-    Bracketed, Itself, Joined, Listed, Number, Pair, Text, Written, write_framed,
+    Counted, If, InTurn, Labelled, Listed, Number, Numbers, OneOf, Pair, SeparatedValues, Written,
+    write_framed,
 };
-use sinks::{Answer, Kept, Refused, Script, Sink, Tap, WriteFault, put};
+use sinks::{Answer, Kept, Refused, Script, Sink, Tap, WriteFault, put, to_bytes};
 use std::io::Cursor;
 use std::test::Fail;
 
-const NUMBERS: &[Number] = &[Number(1), Number(-20), Number(i64::MIN)];
+const NUMBERS: &[i64] = &[1, -20, i64::MIN];
 
-const GIVEN: &[Number] = &[Number(3), Number(0)];
+const GIVEN: &[i64] = &[3, 0];
 
-/// Numbers that are joined, nothing, a sign, a pair, and what an iterator gives, framed and as a list.
+/// Numbers in a list, nothing, a sign, a pair, and what an iterator gives, framed and as a list.
 fn write_pieces(kept: &mut Kept) -> Result<(), WriteFault> {
-    Bracketed(Joined(NUMBERS)).write(kept)?;
-    Option::<Number>::None.write(kept)?;
-    Some(Text(b";")).write(kept)?;
+    Listed(NUMBERS, &Numbers).write(kept)?;
+    Option::<&str>::None.write(kept)?;
+    Some(";").write(kept)?;
     Pair(-3, 4).write(kept)?;
-    write_framed(kept, b"<", &Itself, &mut GIVEN.iter(), b">")?;
-    Listed(GIVEN, &Itself).write(kept)
+    write_framed(kept, b"<", &Numbers, &mut GIVEN.iter().copied(), b">")?;
+    Listed(GIVEN, &Numbers).write(kept)
 }
 
 #[test]
@@ -32,9 +33,50 @@ fn joins_pieces(rt: HostRuntime) {
 fn stops_at_a_failure(rt: HostRuntime) -> Result<(), Fail> {
     let answers = Vec::from_array(rt.alloc(), [Answer::Take(2), Answer::FailAfter(1)])?;
     let mut script = Script::new(rt.alloc(), answers);
-    let fault = Joined(&[Number(123), Number(4)]).write(&mut script).err();
+    let fault = (Number(123), ",", Number(4)).write(&mut script).err();
     assert!(rt; fault == Some(WriteFault::Write));
     assert!(rt; script.taken() == b"123".as_slice() && script.failures() == 1);
+    Ok(())
+}
+
+/// One part more in each.
+#[test]
+fn tuples(rt: HostRuntime) -> Result<(), Fail> {
+    let three = ("a", "b", "c");
+    let five = (three, "d", "e", "f", "g");
+    let seven = ("h", ("i", "j"), ("k", "l", "m", "n"), "o", "p", "q", "r");
+    let six = ("s", "t", "u", "v", "w", "x");
+    let text = (five, seven, six, "y", "z", "0", "1", "2");
+    let bytes = to_bytes(rt.alloc(), &text)?;
+    assert!(rt; bytes.as_slice() == b"abcdefghijklmnopqrstuvwxyz012".as_slice());
+    Ok(())
+}
+
+#[test]
+fn choices(rt: HostRuntime) -> Result<(), Fail> {
+    let label = String::from_str(rt.alloc(), "b")?;
+    let counts = (Counted(1, " line", " lines"), Counted(2, " ring", " rings"));
+    let labels = (Labelled("a", &Some(label)), Labelled::<&str>("c", &None));
+    let chosen = (
+        OneOf(true, "d", "e"),
+        OneOf(false, "f", "g"),
+        If(false, "h"),
+    );
+    let bytes = to_bytes(rt.alloc(), &(counts, labels, chosen))?;
+    assert!(rt; bytes.as_slice() == b"1 line2 ringsabdg".as_slice());
+    Ok(())
+}
+
+#[test]
+fn sequences(rt: HostRuntime) -> Result<(), Fail> {
+    let behind = SeparatedValues {
+        separator: "; ",
+        is_behind: false,
+        values: GIVEN,
+        notation: &Numbers,
+    };
+    let bytes = to_bytes(rt.alloc(), &(InTurn(GIVEN, &Numbers), behind))?;
+    assert!(rt; bytes.as_slice() == b"303; 0".as_slice());
     Ok(())
 }
 

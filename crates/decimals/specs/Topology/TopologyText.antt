@@ -1,15 +1,15 @@
 -- The text of a topology in the unit of the map [TopoJSON, 2 and 3]: compact JSON, `type` first.
-use Rattle.std.specs.Prelude.{ℕ, ℤ, List, ◌++◌, codes}
+use Rattle.std.specs.Prelude.{ℕ, ℤ, List, ◌++◌, codes, cond}
 use Rattle.grid.specs.Place.{Transform}
 use Rattle.grid.specs.declared.pos.Pos.{Pos}
+use Rattle.shapes.specs.Forms.{is_null, kind_name}
 use Rattle.shapes.specs.Parts.{spelled_text}
 use Rattle.shapes.specs.Spelling.{spelling_of}
 use Rattle.sinks.specs.Texts.{joined, list_text, option_text, pair_text}
-use Rattle.theory.specs.ArcNumbers.{ArcRef}
 use Rattle.arcs.specs.ArcTexts.{arc_text, index_text, position_text}
 use Rattle.topo.specs.Parts.{Corners, TopologyParts}
 use Rattle.topo.specs.Bodies.{Body}
-use Rattle.shapes.specs.declared.form.Form.TheVariants as of
+use Rattle.shapes.specs.Writing.Forms.{content_member, form_content}
 use Rattle.shapes.specs.Writing.Members.{id_text, properties_member}
 use Rattle.decimals.specs.Topology.DecimalTransform.{DecimalTransformParts, quantizer_of}
 use Rattle.decimals.specs.Topology.LayersBack.{BackGeometryParts, BackLayerParts, layers_back}
@@ -19,18 +19,11 @@ use Rattle.decimals.specs.declared.topology.quantizer.Quantizer.{Quantizer}
 use Rattle.decimals.specs.declared.topology.rules.BackRules.{BackRules}
 use Rattle.numerals.specs.Numeral.{Measure}
 
-abbrev pub list_of_lists : List (List ArcRef) → List ℕ
-list_of_lists ls = list_text (list_text index_text) ls
-
 -- the type of a geometry, and what it is made of, by the texts of positions [TopoJSON, 2.2]
 abbrev pub body_text : (Pos → List ℕ) → Body → List ℕ
-body_text position of.Null = codes "null"
-body_text position (of.Point p) = codes "\"Point\",\"coordinates\":" ++ position p
-body_text position (of.MultiPoint ps) = codes "\"MultiPoint\",\"coordinates\":" ++ list_text position ps
-body_text position (of.Line used) = codes "\"LineString\",\"arcs\":" ++ list_text index_text used
-body_text position (of.MultiLine ls) = codes "\"MultiLineString\",\"arcs\":" ++ list_of_lists ls
-body_text position (of.Polygon rs) = codes "\"Polygon\",\"arcs\":" ++ list_of_lists rs
-body_text position (of.MultiPolygon ps) = codes "\"MultiPolygon\",\"arcs\":" ++ list_text list_of_lists ps
+body_text position form =
+    cond (is_null form) (codes "null")
+    (codes "\"" ++ (kind_name form ++ (codes "\"," ++ content_member (form_content position (list_text index_text) (list_text index_text) form) form)))
 
 -- the text of a geometry: id, properties, type, and arcs or coordinates [TopoJSON, 2.2]
 abbrev pub geometry_text : (Pos → List ℕ) → BackGeometryParts → List ℕ

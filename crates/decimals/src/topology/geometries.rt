@@ -1,13 +1,12 @@
 //! The texts of geometries.
 ghost use Rattle.decimals.specs.Topology.TopologyText.{body_text, geometry_text, layer_text};
-ghost use Rattle.shapes.specs.Writing.Members.{properties_member};
 
 use crate::topology::layers::{BackGeometry, BackLayer};
 use arcs::writing::ArcIndexes;
 use grid::Pos;
-use shapes::writing::{IdMember, Lists};
-use sinks::written::{Listed, Notation, Noted, Text, Then, Written};
-use sinks::{Sink, WriteFault, put};
+use shapes::writing::{ContentMember, FormContent, IdMember, KindName, Lists, PropertiesMember};
+use sinks::written::{Listed, Notation, OneOf, Written};
+use sinks::{Sink, WriteFault};
 use topo::geom::Body;
 
 /// The type of a geometry, and what it is made of, its positions in a notation.
@@ -21,55 +20,14 @@ impl<'a, N: Notation<Pos>> Written for BodyText<'a, N> {
     ghost text = { λ b. body_text (N.text b.positions.now) b.body.now };
 
     fn write<W: Sink>(&self, sink: &mut W) -> Result<(), WriteFault> {
-        match self.body {
-            Body::Null => put(sink, b"null"),
-            Body::Point(p) => Then(
-                Text(b"\"Point\",\"coordinates\":"),
-                Noted(p, self.positions),
-            )
-            .write(sink),
-            Body::MultiPoint(ps) => Then(
-                Text(b"\"MultiPoint\",\"coordinates\":"),
-                Listed(ps.as_slice(), self.positions),
-            )
-            .write(sink),
-            Body::Line(used) => Then(
-                Text(b"\"LineString\",\"arcs\":"),
-                Listed(used.as_slice(), &ArcIndexes),
-            )
-            .write(sink),
-            Body::MultiLine(lines) => Then(
-                Text(b"\"MultiLineString\",\"arcs\":"),
-                Listed(lines.as_slice(), &Lists(ArcIndexes)),
-            )
-            .write(sink),
-            Body::Polygon(rings) => Then(
-                Text(b"\"Polygon\",\"arcs\":"),
-                Listed(rings.as_slice(), &Lists(ArcIndexes)),
-            )
-            .write(sink),
-            Body::MultiPolygon(polygons) => Then(
-                Text(b"\"MultiPolygon\",\"arcs\":"),
-                Listed(polygons.as_slice(), &Lists(Lists(ArcIndexes))),
-            )
-            .write(sink),
-        }
-    }
-}
-
-/// The member `properties` and a comma; nothing where there are none.
-#[derive(Clone, Copy)]
-struct PropertiesMember<'a>(&'a str);
-
-impl<'a> Written for PropertiesMember<'a> {
-    ghost text = { λ p. properties_member p.0.now };
-
-    fn write<W: Sink>(&self, sink: &mut W) -> Result<(), WriteFault> {
-        if self.0 == "{}" {
-            return Ok(());
-        }
-        let text = Text(self.0.as_bytes());
-        Then(Text(b"\"properties\":"), Then(text, Text(b","))).write(sink)
+        let content = FormContent {
+            places: self.positions,
+            lines: Lists(ArcIndexes),
+            rings: Lists(ArcIndexes),
+        };
+        let member = ContentMember(self.body, &content);
+        let body = ("\"", KindName(self.body), "\",", member);
+        OneOf(self.body.is_null(), "null", body).write(sink)
     }
 }
 
@@ -85,12 +43,8 @@ impl<'a, N: Notation<Pos>> Notation<BackGeometry> for TypeFirstGeometries<'a, N>
             body: &value.body,
             positions: self.0,
         };
-        let body = Then(Text(b"\"type\":"), Then(body, Text(b"}")));
-        let members = Then(
-            IdMember(&value.id),
-            Then(PropertiesMember(value.properties.as_str()), body),
-        );
-        Then(Text(b"{"), members).write(sink)
+        let properties = PropertiesMember(value.properties.as_str());
+        ("{", IdMember(&value.id), properties, "\"type\":", body, "}").write(sink)
     }
 }
 
@@ -104,8 +58,7 @@ impl<'a, N: Notation<Pos>> Notation<BackLayer> for TypeFirstLayers<'a, N> {
     fn write_value<W: Sink>(&self, value: &BackLayer, sink: &mut W) -> Result<(), WriteFault> {
         let notation = TypeFirstGeometries(self.0);
         let geometries = Listed(value.geometries.as_slice(), &notation);
-        let head = Text(b":{\"type\":\"GeometryCollection\",\"geometries\":");
-        let name = Text(value.name.spelling().as_bytes());
-        Then(name, Then(head, Then(geometries, Text(b"}")))).write(sink)
+        let head = ":{\"type\":\"GeometryCollection\",\"geometries\":";
+        (&value.name, head, geometries, "}").write(sink)
     }
 }

@@ -6,7 +6,7 @@ ghost use Rattle.std.specs.Prelude.{◌≡◌, ◌<◌, ◌≤◌, ◌++◌, Err
 
 use crate::topology::fault::DecimalFault;
 use numerals::{Decimal, DecimalStep};
-use sinks::written::{Text, Then, Written};
+use sinks::written::Written;
 use sinks::{Sink, WriteFault};
 use std::alloc::{AllocError, Global};
 
@@ -62,14 +62,12 @@ pub(crate) fn copies_of(alloc: Global, first: &str, second: &str) -> Result<Numb
 
 /// Two numbers with a comma between, behind a head and before a tail.
 pub(crate) fn write_pair<W: Sink>(
-    head: &[u8],
+    head: &str,
     pair: &NumberPair,
-    tail: &[u8],
+    tail: &str,
     out: &mut W,
 ) -> Result<(), WriteFault>
     ensures { OnOk result (TookAll (W.seen out.old) (W.seen out.new) (head.now ++ (string_bytes pair.now.first ++ (codes "," ++ (string_bytes pair.now.second ++ tail.now))))) }
 {
-    let (first, second) = (pair.first.as_str(), pair.second.as_str());
-    let rest = Then(Text(b","), Then(Text(second.as_bytes()), Text(tail)));
-    Then(Text(head), Then(Text(first.as_bytes()), rest)).write(out)
+    (head, &pair.first, ",", &pair.second, tail).write(out)
 }

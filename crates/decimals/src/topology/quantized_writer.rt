@@ -5,7 +5,6 @@ ghost use Rattle.decimals.specs.Topology.TopologyText.{content_text, layer_text,
 ghost use Rattle.decimals.specs.declared.topology.fault.DecimalFault.TheVariants.{TooManyDigits};
 ghost use Rattle.sinks.specs.Texts.{joined};
 ghost use Rattle.sinks.specs.Writes.{TookAll};
-ghost use Rattle.std.specs.Fmt.{signed_decimal};
 ghost use Rattle.std.specs.Prelude.{◌≡◌, ◌<◌, ◌≤◌, ◌++◌, Err, IfOk, IfSome, OnOk, codes};
 
 use crate::topology::decimal_transform::DecimalTransform;
@@ -18,24 +17,10 @@ use crate::topology::rules::BackRules;
 use crate::topology::writer::{write_bbox, written_layers};
 use chains::table::ArcTable;
 use grid::Pos;
-use itoa::Buffer;
-use sinks::written::{Bracketed, Each, Listed, Notation, Text, Then, Written};
-use sinks::{Kept, Sink, WriteFault, put};
+use sinks::written::{Bracketed, Each, Listed, Notation, Number, Written};
+use sinks::{Kept, Sink, WriteFault};
 use std::alloc::Global;
 use topo::topology::Topology;
-
-/// A whole number.
-#[derive(Clone, Copy)]
-struct WideNumber(i128);
-
-impl Written for WideNumber {
-    ghost text = { λ n. signed_decimal n.0 };
-
-    fn write<W: Sink>(&self, sink: &mut W) -> Result<(), WriteFault> {
-        let mut buffer = Buffer::new();
-        put(sink, buffer.format(self.0).as_bytes())
-    }
-}
 
 /// Two whole numbers, in brackets.
 #[derive(Clone, Copy)]
@@ -46,7 +31,7 @@ impl Notation<(i128, i128)> for NumbersText {
 
     fn write_value<W: Sink>(&self, value: &(i128, i128), sink: &mut W) -> Result<(), WriteFault> {
         let (x, y) = *value;
-        Bracketed(Then(WideNumber(x), Then(Text(b","), WideNumber(y)))).write(sink)
+        Bracketed((Number(x), ",", Number(y))).write(sink)
     }
 }
 
@@ -72,11 +57,11 @@ fn write_arcs<W: Sink>(
     ensures text { OnOk result (TookAll (W.seen out.old) (W.seen out.new) (joined (quantized_arc quantizer.now) arcs.now.arcs)) }
     ensures refused { ¬ (result ≡ Err DecimalFault.TooManyDigits) }
 {
-    let mut separator = Text(b"");
+    let mut separator = "";
     for arc in arcs.iter() {
         let numbers = quantizer.arc(alloc, arc)?;
-        Then(separator, Listed(numbers.as_slice(), &NumbersText)).write(out)?;
-        separator = Text(b",");
+        (separator, Listed(numbers.as_slice(), &NumbersText)).write(out)?;
+        separator = ",";
     }
     Ok(())
 }
@@ -90,11 +75,8 @@ fn write_objects<W: Sink>(
     ensures { OnOk result (TookAll (W.seen out.old) (W.seen out.new) (codes "\"objects\":{" ++ (joined (layer_text (quantized_position quantizer.now)) layers.now ++ codes "},\"arcs\":["))) }
 {
     let positions = QuantizedPositions(quantizer);
-    let layers = Then(
-        Each(layers, &TypeFirstLayers(&positions)),
-        Text(b"},\"arcs\":["),
-    );
-    Then(Text(b"\"objects\":{"), layers).write(out)
+    let layers = Each(layers, &TypeFirstLayers(&positions));
+    ("\"objects\":{", layers, "},\"arcs\":[").write(out)
 }
 
 /// The members `objects` and `arcs`, and the end of the text.
@@ -111,7 +93,7 @@ fn write_quantized<W: Sink>(
     let layers = written_layers(alloc, topology, rules)?;
     write_objects(quantizer, layers.as_slice(), out)?;
     write_arcs(alloc, quantizer, topology.arcs(), out)?;
-    Text(b"]}").write(out)?;
+    "]}".write(out)?;
     Ok(())
 }
 
@@ -119,8 +101,8 @@ fn write_quantized<W: Sink>(
 fn write_numerals<W: Sink>(transform: &DecimalTransform, out: &mut W) -> Result<(), WriteFault>
     ensures { OnOk result (TookAll (W.seen out.old) (W.seen out.new) (transform_member transform.now.scale_x transform.now.scale_y transform.now.translate_x transform.now.translate_y)) }
 {
-    write_pair(b"\"transform\":{\"scale\":[", &transform.scale, b"]", out)?;
-    write_pair(b",\"translate\":[", &transform.translate, b"]},", out)?;
+    write_pair("\"transform\":{\"scale\":[", &transform.scale, "]", out)?;
+    write_pair(",\"translate\":[", &transform.translate, "]},", out)?;
     Ok(())
 }
 
@@ -143,7 +125,7 @@ pub fn text_on(
 {
     let quantizer = transform.quantizer(topology.grid());
     let mut out = Kept::new(alloc);
-    Text(b"{\"type\":\"Topology\",").write(&mut out)?;
+    "{\"type\":\"Topology\",".write(&mut out)?;
     write_numerals(transform, &mut out)?;
     write_bbox(alloc, topology.bbox(), &transform.unit, &mut out)?;
     write_quantized(alloc, topology, &quantizer, rules, &mut out)?;

@@ -19,7 +19,7 @@ use chains::table::ArcTable;
 use faults::OutOfMemory;
 use grid::Grid;
 use numerals::DecimalStep;
-use sinks::written::{Each, Text, Then, Written};
+use sinks::written::{Each, Written};
 use sinks::{Kept, Sink, WriteFault};
 use std::alloc::Global;
 use topo::topology::Topology;
@@ -38,8 +38,8 @@ fn write_transform<W: Sink>(
     let (scale, translate) = (grid.scale(), grid.translate());
     let size = pair_of(alloc, unit, scale.0, scale.1)?;
     let place = pair_of(alloc, unit, translate.0, translate.1)?;
-    write_pair(b"\"transform\":{\"scale\":[", &size, b"]", out)?;
-    write_pair(b",\"translate\":[", &place, b"]},", out)?;
+    write_pair("\"transform\":{\"scale\":[", &size, "]", out)?;
+    write_pair(",\"translate\":[", &place, "]},", out)?;
     Ok(())
 }
 
@@ -59,8 +59,8 @@ pub(crate) fn write_bbox<W: Sink>(
     };
     let least = pair_of(alloc, unit, west, south)?;
     let greatest = pair_of(alloc, unit, east, north)?;
-    write_pair(b"\"bbox\":[", &least, b",", out)?;
-    write_pair(b"", &greatest, b"],", out)?;
+    write_pair("\"bbox\":[", &least, ",", out)?;
+    write_pair("", &greatest, "],", out)?;
     Ok(())
 }
 
@@ -72,12 +72,15 @@ fn write_content<W: Sink>(
 ) -> Result<(), WriteFault>
     ensures { OnOk result (TookAll (W.seen out.old) (W.seen out.new) (content_text position_text arc_text layers.now arcs.now.arcs)) }
 {
-    let tail = Then(Text(b"},\"arcs\":["), Then(ArcsText(arcs), Text(b"]}")));
-    Then(
-        Text(b"\"objects\":{"),
-        Then(Each(layers, &TypeFirstLayers(&PositionNumbers)), tail),
+    let layers = Each(layers, &TypeFirstLayers(&PositionNumbers));
+    (
+        "\"objects\":{",
+        layers,
+        "},\"arcs\":[",
+        ArcsText(arcs),
+        "]}",
     )
-    .write(out)
+        .write(out)
 }
 
 /// The layers of a topology as the rules say.
@@ -127,7 +130,7 @@ pub fn text_of(
     ensures refused { result ≡ Err DecimalFault.TooManyDigits → 30 < unit.now.places }
 {
     let mut out = Kept::new(alloc);
-    Text(b"{\"type\":\"Topology\",").write(&mut out)?;
+    "{\"type\":\"Topology\",".write(&mut out)?;
     write_transform(alloc, &topology.grid(), unit, &mut out)?;
     write_bbox(alloc, topology.bbox(), unit, &mut out)?;
     write_layers(alloc, topology, rules, &mut out)?;

@@ -1,92 +1,45 @@
 //! Coordinates by how deep their brackets nest, whatever the type beside them.
-ghost use Rattle.geojson_io.specs.TokenCoordinates.{nested_faults, CoordinatesMean};
-ghost use Rattle.json.specs.Token as spec;
-ghost use Rattle.reading.specs.Tokens.Reads.{Reads};
-ghost use Rattle.std.specs.Prelude.{◌≡◌, ◌∷◌, [], IfOk};
+ghost use Rattle.geojson_io.specs.TokenCoordinates.{AreCoordinates};
 
-use crate::reader::position::Position;
+use crate::parts::root::Root;
+use crate::parts::position::Position;
 use grid::pos::Pos;
 use json::Reader;
-use reading::token_parts::list::{ListOf, single};
-use reading::token_parts::opened::{FromOpened, number_or_array};
-use reading::tokens::from_tokens::Stop;
-use reading::tokens::list::read_rest;
-use reading::tokens::token::take_begin_array;
+use json_parts::lookup::Lookup;
+use json_parts::members::ReadMember;
+use json_parts::nested::{Nested, read_nested};
+use json_parts::skip::Skip;
+use json_parts::stop::Stop;
+use reading::converted::SerdeJson;
 use std::alloc::Global;
 
-/// A position, a list of them, a list of lists, or a list of those.
-#[derive(Drop)]
-pub enum Coordinates {
-    /// The empty list, of whatever.
-    Empty,
-    Place(Pos),
-    Places(Vec<Pos>),
-    Lists(Vec<Vec<Pos>>),
-    Groups(Vec<Vec<Vec<Pos>>>),
+/// The coordinates of geometries.
+#[derive(Clone, Copy)]
+pub struct Coordinates {
+    pub position: Position,
 }
 
-// Polygons of which the first is behind, and has no ring.
-fn read_behind_empty<'a>(
-    alloc: Global,
-    position: &Position,
-    reader: &mut Reader<'a>,
-    depth: usize,
-) -> Result<Coordinates, Stop>
-    ensures { IfOk result (λ n. Reads (nested_faults position.now.grid n) (CoordinatesMean position.now.grid) depth (spec.begin_array ∷ spec.begin_array ∷ spec.end_array ∷ reader.old) reader.new n) }
-{
-    if depth < 2 {
-        return Err(Stop::Unread);
-    }
-    let polygon = ListOf {
-        of: ListOf { of: *position },
-    };
-    let begun = single(alloc, Vec::new(alloc))?;
-    let groups = read_rest(alloc, &polygon, reader, depth - 1, begun)?;
-    Ok(Coordinates::Groups(groups))
-}
+impl<'t> ReadMember<'t, SerdeJson, Root> for Coordinates {
+    type Made = Nested<Pos>;
 
-// Lists, or lists of lists, of which two brackets are behind.
-fn read_lists<'a>(
-    alloc: Global,
-    position: &Position,
-    reader: &mut Reader<'a>,
-    depth: usize,
-) -> Result<Coordinates, Stop>
-    ensures { IfOk result (λ n. Reads (nested_faults position.now.grid n) (CoordinatesMean position.now.grid) depth (spec.begin_array ∷ spec.begin_array ∷ reader.old) reader.new n) }
-{
-    let places = ListOf { of: *position };
-    let lists = ListOf { of: places };
-    let groups = ListOf { of: lists };
-    if reader.take_end_array() {
-        return read_behind_empty(alloc, position, reader, depth);
-    }
-    if let Some(x) = number_or_array(reader)? {
-        return Ok(Coordinates::Places(places.read_opened(alloc, x, reader, depth)?));
-    }
-    if let Some(x) = number_or_array(reader)? {
-        return Ok(Coordinates::Lists(lists.read_opened(alloc, x, reader, depth)?));
-    }
-    if let Some(x) = number_or_array(reader)? {
-        return Ok(Coordinates::Groups(groups.read_opened(alloc, x, reader, depth)?));
-    }
-    Err(Stop::Unread)
-}
+    ghost means = { λ p. AreCoordinates p.position.grid };
 
-/// The coordinates that come next.
-pub fn read_coordinates<'a>(
-    alloc: Global,
-    position: &Position,
-    reader: &mut Reader<'a>,
-    depth: usize,
-) -> Result<Coordinates, Stop>
-    ensures read { IfOk result (λ n. Reads (nested_faults position.now.grid n) (CoordinatesMean position.now.grid) depth reader.old reader.new n) }
-{
-    take_begin_array(reader, depth)?;
-    if reader.take_end_array() {
-        return Ok(Coordinates::Empty);
+    fn read_member(
+        &self,
+        alloc: Global,
+        kind: &Lookup<Root>,
+        reader: &mut Reader<'t>,
+        depth: usize,
+    ) -> Result<Lookup<Nested<Pos>>, Stop> {
+        match kind {
+            Lookup::Missing | Lookup::Read(Root::Geometry(_)) => {
+                let read = read_nested(alloc, &self.position, reader, depth, &mut ())?;
+                Ok(Lookup::Read(read))
+            }
+            _ => {
+                SerdeJson::skip(reader, depth)?;
+                Ok(Lookup::Skipped)
+            }
+        }
     }
-    if let Some(x) = number_or_array(reader)? {
-        return Ok(Coordinates::Place(position.read_opened(alloc, x, reader, depth)?));
-    }
-    read_lists(alloc, position, reader, depth)
 }

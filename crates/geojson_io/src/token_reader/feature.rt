@@ -1,142 +1,123 @@
 //! Features, whose members come in any order.
-ghost use Rattle.geojson_io.specs.Features.{feature_members, feature_of, element_of_features_faults};
-ghost use Rattle.geojson_io.specs.TokenMembers.{KnowsRootType, KnowsFeature};
+ghost use Rattle.geojson_io.specs.Features.{element_of_features_faults, feature_members, feature_of};
+ghost use Rattle.geojson_io.specs.TokenMembers.{KnowsParts, KnowsId};
 ghost use Rattle.grid.specs.Place.{Transform};
+ghost use Rattle.json.specs.Json.{Members, object};
+ghost use Rattle.json_parts.specs.Members.{lookup_of};
+ghost use Rattle.reading.specs.Converted.{IsConverted};
+ghost use Rattle.reading.specs.Info.{member_or_null, properties_of};
 ghost use Rattle.reading.specs.Plain.{plain};
-ghost use Rattle.serde_json.specs.Data.{Members, no_members, object};
-ghost use Rattle.std.specs.Prelude.{◌≡◌, [], IfOk};
-ghost use Rattle.reading.specs.TokenParts.Members.{KnowsId};
+ghost use Rattle.reading.specs.TokenParts.Members.{KnowsProps};
+ghost use Rattle.serde_json.specs.Data as data;
+ghost use Rattle.serde_json.specs.Data.{Data};
+ghost use Rattle.serde_json.specs.Read.{of_json};
+ghost use Rattle.shapes.specs.Parts.{properties_text};
+ghost use Rattle.shapes.specs.declared.props.Props.{Props as the_props};
+ghost use Rattle.std.specs.Prelude.{◌≡◌, [], Option, Some, codes, IfOk};
+ghost use Rattle.geojson_io.specs.declared.parts.root.Root.TheVariants as root;
 
-use crate::reader::Root;
-use crate::reader::feature::FeatureElement;
-use crate::reader::position::Position;
-use crate::token_reader::geometry::read_geometry;
-use crate::token_reader::kind::take_root;
+use crate::parts::root::Root;
+use crate::parts::feature::FeatureElement;
+use crate::parts::position::Position;
+use crate::token_reader::geometry::GeometryOrNull;
 use json::Reader;
+use json_parts::from_tokens::FromTokens;
+use json_parts::lookup::Lookup;
+use json_parts::member::{Both, Member};
+use json_parts::object::read_object;
+use json_parts::of_type::{OfType, Within};
+use json_parts::stop::Stop;
+use reading::converted::{ByValue, SerdeJson};
 use reading::info::{Ids, Properties};
 use reading::token_parts::info::props_or_empty;
-use reading::token_parts::part::read_part;
-use reading::tokens::from_tokens::{FromTokens, Stop};
-use reading::tokens::object::{TakeMember, read_object};
-use reading::tokens::skip::skip_value;
 use shapes::feature::Feature;
 use shapes::props::Props;
 use shapes::shape::{Id, Shape};
 use std::alloc::Global;
 
-/// What is known of the members of a feature other than its type.
-#[derive(Drop)]
-pub struct FeatureParts {
-    pub shape: Option<Shape>,
-    pub id: Option<Id>,
-    pub props: Option<Props>,
-}
+/// A member of features.
+pub type FeatureMember<P> = Member<'static, OfType<Root, P>>;
 
-impl TakeMember for FeatureParts {
-    type On = Position;
+/// The members of a feature other than its type.
+pub type FeatureParts =
+    Both<FeatureMember<GeometryOrNull>, Both<FeatureMember<ByValue<Ids>>, FeatureMember<ByValue<Properties>>>>;
 
-    ghost knows = { λ on m ms. KnowsFeature on.grid m.shape m.id m.props ms };
+/// What was read of these.
+pub type PartsFound = (Lookup<Shape>, (Lookup<Id>, Lookup<Props>));
 
-    fn take<'a>(
-        &mut self,
-        alloc: Global,
-        on: &Position,
-        name: &'a str,
-        reader: &mut Reader<'a>,
-        depth: usize,
-    ) -> Result<(), Stop> {
-        if name == "geometry" {
-            let shape = read_geometry(alloc, on, reader, depth)?;
-            self.shape = Some(shape);
-            return Ok(());
-        }
-        if name == "id" {
-            let id = read_part(alloc, &Ids, reader, depth)?;
-            self.id = Some(id);
-            return Ok(());
-        }
-        if name == "properties" {
-            let props = read_part(alloc, &Properties, reader, depth)?;
-            self.props = Some(props);
-            return Ok(());
-        }
-        skip_value(reader, depth)
+// A member of features.
+fn member_of<P>(name: &'static str, part: P) -> FeatureMember<P>
+    ensures { result ≡ record { name = name; part = record { kind = root.Feature; part = part } } }
+{
+    Member {
+        name,
+        part: OfType {
+            kind: Root::Feature,
+            part,
+        },
     }
 }
 
-/// Nothing is known yet.
-pub fn nothing_known() -> FeatureParts
-    ensures { (g : Transform) → KnowsFeature g result.shape result.id result.props no_members }
+/// The members of a feature other than its type.
+pub fn feature_parts(position: &Position) -> FeatureParts
+    ensures { (result.first.part.part.position ≡ position.now) }
 {
-    FeatureParts {
-        shape: None,
-        id: None,
-        props: None,
+    Both {
+        first: member_of(
+            "geometry",
+            GeometryOrNull {
+                position: *position,
+            },
+        ),
+        second: Both {
+            first: member_of("id", ByValue { part: Ids }),
+            second: member_of("properties", ByValue { part: Properties }),
+        },
     }
 }
 
-/// The feature of members whose type is validated.
-pub fn feature_of_parts(alloc: Global, parts: FeatureParts) -> Result<Feature, Stop>
-    requires { (ms : Members) × KnowsId parts.id ms }
-    ensures { IfOk result (λ f. (g : Transform) (ms : Members) → KnowsFeature g parts.shape parts.id parts.props ms → (feature_members g (object ms) ≡ []) × (plain f ≡ feature_of g (object ms))) }
+// The properties that were read, or empty ones where the member is missing.
+fn props_of(alloc: Global, props: Lookup<Props>) -> Result<Props, Stop>
+    ensures { IfOk result (λ p. (o : Option the_props) × (props ≡ lookup_of o) × ((ms : data.Members) → KnowsProps o ms → properties_text p ≡ properties_of (member_or_null (codes "properties") (data.object ms)))) }
 {
-    let FeatureParts { shape, id, props } = parts;
-    let props = props_or_empty(alloc, props)?;
-    let shape = shape.unwrap_or(Shape::Null);
-    let id = id.unwrap_or(Id::None);
+    props_or_empty(alloc, props.into_member()?)
+}
+
+/// The feature of what was read of one.
+pub fn feature_of_parts(alloc: Global, found: PartsFound) -> Result<Feature, Stop>
+    requires { (ms : Members) × KnowsId found.1.0 ms }
+    ensures { IfOk result (λ f. (g : Transform) (ms : Members) (d : Data) → of_json (object ms) ≡ Some d → KnowsParts g found ms → (feature_members g d ≡ []) × (plain f ≡ feature_of g d)) }
+{
+    let (shape, (id, props)) = found;
+    let props = props_of(alloc, props)?;
+    let shape = shape.or(Shape::Null)?;
+    let id = id.or(Id::None)?;
     Ok(Feature { id, props, shape })
 }
 
-/// What is known of a feature's members.
-#[derive(Drop)]
-pub struct FeatureMembers {
-    pub kind: Option<Root>,
-    pub parts: FeatureParts,
-}
-
-impl TakeMember for FeatureMembers {
-    type On = Position;
-
-    ghost knows = { λ on m ms. KnowsRootType m.kind ms × KnowsFeature on.grid m.parts.shape m.parts.id m.parts.props ms };
-
-    fn take<'a>(
-        &mut self,
-        alloc: Global,
-        on: &Position,
-        name: &'a str,
-        reader: &mut Reader<'a>,
-        depth: usize,
-    ) -> Result<(), Stop> {
-        if name == "type" {
-            let kind = take_root(reader)?;
-            self.kind = Some(kind);
-            return Ok(());
-        }
-        self.parts.take(alloc, on, name, reader, depth)
-    }
-}
-
-impl FromTokens for FeatureElement {
+impl<'t> FromTokens<'t> for FeatureElement {
     type Made = Feature;
 
-    ghost faults = { λ p. element_of_features_faults p.position.grid };
+    type Count = ();
 
-    ghost means = { λ p d f. plain f ≡ feature_of p.position.grid d };
+    ghost means = { λ p j f a b. IsConverted (element_of_features_faults p.position.grid) (λ d g. plain g ≡ feature_of p.position.grid d) j f };
 
-    fn read<'a>(
+    fn read(
         &self,
         alloc: Global,
-        reader: &mut Reader<'a>,
+        reader: &mut Reader<'t>,
         depth: usize,
+        _count: &mut (),
     ) -> Result<Feature, Stop> {
-        let mut members = FeatureMembers {
-            kind: None,
-            parts: nothing_known(),
-        };
-        read_object(alloc, &self.position, &mut members, reader, depth)?;
-        match members.kind {
-            Some(Root::Feature) => feature_of_parts(alloc, members.parts),
+        let parts = feature_parts(&self.position);
+        let (kind, found) = read_object::<SerdeJson, Root, FeatureParts>(alloc, &parts, reader, depth)?;
+        match kind {
+            Lookup::Read(Root::Feature) => feature_of_parts(alloc, found),
             _ => Err(Stop::Unread),
         }
     }
+}
+
+impl<'t> Within<'t, SerdeJson> for FeatureElement {
+    ghost within = { λ p j x a b h. (h.0, h.1) };
 }

@@ -1,128 +1,87 @@
 //! Geometries, whose members come in any order.
 ghost use Rattle.geojson_io.specs.Geometries.{geometry_faults, geometry_form};
-ghost use Rattle.geojson_io.specs.TokenMembers.{KnowsKind, KnowsCoordinates};
-ghost use Rattle.reading.specs.Tokens.Reads.{GivesMembers, Reads};
+ghost use Rattle.geojson_io.specs.TokenMembers.{KnowsCoordinates, KnowsType};
+ghost use Rattle.grid.specs.Place.{Transform};
+ghost use Rattle.json.specs.Json.{Members, object};
+ghost use Rattle.reading.specs.Converted.{IsConverted};
 ghost use Rattle.reading.specs.Parts.{unless_null};
 ghost use Rattle.reading.specs.Plain.{plain_form};
-ghost use Rattle.serde_json.specs.Data.{Members, object};
-ghost use Rattle.std.specs.Prelude.{◌≡◌, [], IfOk};
+ghost use Rattle.serde_json.specs.Data.{Data};
+ghost use Rattle.serde_json.specs.Read.{of_json};
+ghost use Rattle.std.specs.Prelude.{◌≡◌, [], Some, codes, IfOk};
 
-use crate::reader::position::Position;
-use crate::token_reader::coordinates::{Coordinates, read_coordinates};
-use crate::token_reader::kind::take_geometry_type;
+use crate::parts::root::Root;
+use crate::parts::position::Position;
+use crate::token_reader::coordinates::Coordinates;
 use crate::token_reader::shape::shape_of;
-use json::{Reader, Token};
-use reading::geometry::GeometryType;
-use reading::tokens::from_tokens::Stop;
-use reading::tokens::object::{TakeMember, read_members};
-use reading::tokens::skip::skip_value;
+use grid::pos::Pos;
+use json::Reader;
+use json_parts::from_tokens::FromTokens;
+use json_parts::lookup::Lookup;
+use json_parts::member::Member;
+use json_parts::nested::Nested;
+use json_parts::object::read_object_or_null;
+use json_parts::of_type::Within;
+use json_parts::stop::Stop;
+use reading::converted::SerdeJson;
 use shapes::shape::Shape;
 use std::alloc::Global;
 
-/// What is known of the members of a geometry other than its type.
-#[derive(Drop)]
-pub struct GeometryParts {
-    pub coordinates: Option<Coordinates>,
-}
-
-impl TakeMember for GeometryParts {
-    type On = Position;
-
-    ghost knows = { λ on m ms. KnowsCoordinates on.grid m.coordinates ms };
-
-    fn take<'a>(
-        &mut self,
-        alloc: Global,
-        on: &Position,
-        name: &'a str,
-        reader: &mut Reader<'a>,
-        depth: usize,
-    ) -> Result<(), Stop> {
-        if name == "coordinates" {
-            let coordinates = read_coordinates(alloc, on, reader, depth)?;
-            self.coordinates = Some(coordinates);
-            return Ok(());
-        }
-        skip_value(reader, depth)
-    }
-}
-
-/// What is known of a geometry's members.
-#[derive(Drop)]
-pub struct GeometryMembers {
-    pub kind: Option<GeometryType>,
-    pub parts: GeometryParts,
-}
-
-impl TakeMember for GeometryMembers {
-    type On = Position;
-
-    ghost knows = { λ on m ms. KnowsKind m.kind ms × KnowsCoordinates on.grid m.parts.coordinates ms };
-
-    fn take<'a>(
-        &mut self,
-        alloc: Global,
-        on: &Position,
-        name: &'a str,
-        reader: &mut Reader<'a>,
-        depth: usize,
-    ) -> Result<(), Stop> {
-        if name == "type" {
-            let kind = take_geometry_type(reader)?;
-            self.kind = Some(kind);
-            return Ok(());
-        }
-        self.parts.take(alloc, on, name, reader, depth)
-    }
-}
-
-// The shape of a geometry that has begun.
-fn read_object<'a>(
-    alloc: Global,
-    position: &Position,
-    reader: &mut Reader<'a>,
-    depth: usize,
-) -> Result<Shape, Stop>
-    ensures { IfOk result (λ s. (ms : Members) × GivesMembers depth reader.old ms reader.new × (geometry_faults position.now.grid (object ms) ≡ []) × (plain_form s ≡ geometry_form position.now.grid (object ms))) }
+/// The member `coordinates`.
+pub fn coordinates_member(position: &Position) -> Member<'static, Coordinates>
+    ensures name { result.name.now ≡ codes "coordinates" }
+    ensures part { result.part.position ≡ position.now }
 {
-    let mut members = GeometryMembers {
-        kind: None,
-        parts: GeometryParts { coordinates: None },
-    };
-    read_members(alloc, position, &mut members, reader, depth)?;
-    let GeometryMembers {
-        kind,
-        parts: GeometryParts { coordinates },
-    } = members;
-    let Some(kind) = kind else {
-        return Err(Stop::Unread);
-    };
-    let Some(coordinates) = coordinates else {
-        return Err(Stop::Unread);
-    };
-    shape_of(alloc, kind, coordinates)
+    Member {
+        name: "coordinates",
+        part: Coordinates {
+            position: *position,
+        },
+    }
 }
 
-/// The shape of the geometry or the null that comes next.
-pub fn read_geometry<'a>(
+// The shape of a geometry of which this was read.
+fn shape_of_members(
     alloc: Global,
-    position: &Position,
-    reader: &mut Reader<'a>,
-    depth: usize,
+    kind: Lookup<Root>,
+    coordinates: Lookup<Nested<Pos>>,
 ) -> Result<Shape, Stop>
-    ensures { IfOk result (λ s. Reads (unless_null (geometry_faults position.now.grid)) (λ d x. plain_form x ≡ geometry_form position.now.grid d) depth reader.old reader.new s) }
+    ensures { IfOk result (λ s. (g : Transform) (ms : Members) (d : Data) → of_json (object ms) ≡ Some d → KnowsType kind ms → KnowsCoordinates g coordinates ms → (geometry_faults g d ≡ []) × (plain_form s ≡ geometry_form g d)) }
 {
-    let Some(token) = reader.next() else {
+    let Lookup::Read(Root::Geometry(kind)) = kind else {
         return Err(Stop::Unread);
     };
-    match token {
-        Token::Null => Ok(Shape::Null),
-        Token::BeginObject => {
-            if depth == 0 {
-                return Err(Stop::Unread);
-            }
-            read_object(alloc, position, reader, depth - 1)
+    shape_of(alloc, kind, coordinates.into_required()?)
+}
+
+/// A geometry, or null.
+#[derive(Clone, Copy)]
+pub struct GeometryOrNull {
+    pub position: Position,
+}
+
+impl<'t> FromTokens<'t> for GeometryOrNull {
+    type Made = Shape;
+
+    type Count = ();
+
+    ghost means = { λ p j x a b. IsConverted (unless_null (geometry_faults p.position.grid)) (λ d s. plain_form s ≡ geometry_form p.position.grid d) j x };
+
+    fn read(
+        &self,
+        alloc: Global,
+        reader: &mut Reader<'t>,
+        depth: usize,
+        _count: &mut (),
+    ) -> Result<Shape, Stop> {
+        let member = coordinates_member(&self.position);
+        match read_object_or_null::<SerdeJson, Root, Member<'_, Coordinates>>(alloc, &member, reader, depth)? {
+            Some((kind, coordinates)) => shape_of_members(alloc, kind, coordinates),
+            None => Ok(Shape::Null),
         }
-        _ => Err(Stop::Unread),
     }
+}
+
+impl<'t> Within<'t, SerdeJson> for GeometryOrNull {
+    ghost within = { λ p j x a b h. (h.0, h.1) };
 }

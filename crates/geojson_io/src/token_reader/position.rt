@@ -3,18 +3,20 @@ ghost use Rattle.geojson_io.specs.Positions.{position_faults, position_of};
 ghost use Rattle.grid.specs.Computed.{axis_number};
 ghost use Rattle.grid.specs.Place.{IsGridNumber};
 ghost use Rattle.json.specs.Token as spec;
+ghost use Rattle.reading.specs.Converted.{IsConverted};
 ghost use Rattle.serde_json.specs.Find.{as_i64, of_integer};
 ghost use Rattle.serde_json.specs.Read.{number_of};
 ghost use Rattle.std.specs.Prelude.{◌≡◌, ◌∷◌, ℤ, Some, Ok, IfOk};
 
-use crate::reader::position::Position;
+use crate::parts::position::Position;
 use grid::pos::Pos;
 use grid::transform::Axis;
 use json::Reader;
-use reading::token_parts::opened::FromOpened;
-use reading::tokens::from_tokens::{FromTokens, Stop};
+use json_parts::from_tokens::FromTokens;
+use json_parts::opened::FromOpened;
+use json_parts::stop::Stop;
+use json_parts::token::{take_begin_array, take_end_array, take_number};
 use reading::tokens::number::whole;
-use reading::tokens::token::{take_begin_array, take_end_array, take_number};
 use std::alloc::Global;
 
 /// The grid number of the number that a text writes.
@@ -32,15 +34,21 @@ fn grid_number(axis: &Axis, text: &str) -> Result<i64, Stop>
     }
 }
 
-impl FromTokens for Position {
+impl<'t> FromTokens<'t> for Position {
     type Made = Pos;
 
-    ghost faults = { λ p. position_faults p.grid };
+    type Count = ();
 
-    ghost means = { λ p d x. x ≡ position_of p.grid d };
+    ghost means = { λ p j x a b. IsConverted (position_faults p.grid) (λ d y. y ≡ position_of p.grid d) j x };
 
     #[inline(always)]
-    fn read<'a>(&self, _alloc: Global, reader: &mut Reader<'a>, depth: usize) -> Result<Pos, Stop> {
+    fn read(
+        &self,
+        _alloc: Global,
+        reader: &mut Reader<'t>,
+        depth: usize,
+        _count: &mut (),
+    ) -> Result<Pos, Stop> {
         take_begin_array(reader, depth)?;
         let x = take_number(reader)?;
         let y = take_number(reader)?;
@@ -54,16 +62,17 @@ impl FromTokens for Position {
     }
 }
 
-impl FromOpened for Position {
+impl<'t> FromOpened<'t> for Position {
     ghost opening = { λ p ts. spec.begin_array ∷ ts };
 
     #[inline(always)]
-    fn read_opened<'a>(
+    fn read_opened(
         &self,
         _alloc: Global,
-        x: &'a str,
-        reader: &mut Reader<'a>,
+        x: &'t str,
+        reader: &mut Reader<'t>,
         depth: usize,
+        _count: &mut (),
     ) -> Result<Pos, Stop> {
         if depth == 0 {
             return Err(Stop::Unread);

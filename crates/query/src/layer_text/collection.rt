@@ -13,7 +13,8 @@ use crate::layer_text::places::{Along, Round};
 use chains::ArcRef;
 use geojson_io::writer::{FeatureOf, FormNotation, Places};
 use lines::items::Items;
-use sinks::written::{Bracketed, Each, Notation, Noted, Text, Then, Written};
+use shapes::writing::FormContent;
+use sinks::written::{Bracketed, Each, Notation, Noted, Written};
 use sinks::{Sink, WriteFault};
 use topo::{Body, Geom, Topology};
 
@@ -52,12 +53,12 @@ impl<'a> Notation<Body> for BodiesOf<'a> {
     fn write_value<W: Sink>(&self, value: &Body, sink: &mut W) -> Result<(), WriteFault> {
         let topology = self.0;
         let grid = topology.grid();
-        FormNotation {
+        let coordinates = FormContent {
             places: Places(&grid),
             lines: LinesOf(topology),
             rings: RingsOf(topology),
-        }
-        .write_value(value, sink)
+        };
+        FormNotation(coordinates).write_value(value, sink)
     }
 }
 
@@ -98,8 +99,8 @@ pub fn write_layer<W: Sink>(
         return Err(LayerFault::NoLayer);
     };
     let features = Each(geometries, &GeometriesOf(topology));
-    let tail = Then(features, Text(b"],\"type\":\"FeatureCollection\"}"));
-    match Then(Text(b"{\"features\":["), tail).write(sink) {
+    let end = "],\"type\":\"FeatureCollection\"}";
+    match ("{\"features\":[", features, end).write(sink) {
         Ok(()) => Ok(()),
         Err(WriteFault::Write) => Err(LayerFault::Write),
     }

@@ -8,9 +8,9 @@ ghost use Rattle.std.specs.Prelude.{OnErr, OnOk};
 
 use crate::layer_text::steps::{behind, is_step, least_step};
 use arcs::{ArcRef, ArcStep};
-use geojson_io::writer::{PlaceAfterComma, Places};
+use geojson_io::writer::Places;
 use grid::{Grid, Pos};
-use sinks::written::{Noted, Text, Then, Written};
+use sinks::written::{Notation, Noted, Written};
 use sinks::{Sink, WriteFault};
 use topo::{Topology, Walk};
 
@@ -20,7 +20,7 @@ fn write_others<W: Sink>(sink: &mut W, grid: &Grid, mut walk: Walk) -> Result<()
     ensures part { OnErr result (TookPart (W.seen sink.old) (W.seen sink.new) (after_commas (place_text grid.now) walk.entry)) }
 {
     while let Some(place) = walk.next() {
-        match PlaceAfterComma(place, grid).write(sink) {
+        match Places(grid).write_after_comma(place, sink) {
             Ok(()) => {}
             Err(fault) => return Err(fault),
         }
@@ -43,7 +43,7 @@ fn write_up_to<W: Sink>(
         if is_step(step, here, *next) {
             return Ok(());
         }
-        match PlaceAfterComma(next, grid).write(sink) {
+        match Places(grid).write_after_comma(next, sink) {
             Ok(()) => here = *next,
             Err(fault) => return Err(fault),
         }
@@ -114,9 +114,9 @@ impl<'a> Written for Round<'a> {
             Some(step) => {
                 let grid = topology.grid();
                 let places = Places(&grid);
-                let others = Then(Behind(topology, used, step), UpTo(topology, used, step));
-                let second = Then(Text(b","), Then(Noted(&step.to, &places), others));
-                Then(Noted(&step.from, &places), second).write(sink)
+                let (from, to) = (Noted(&step.from, &places), Noted(&step.to, &places));
+                let others = Behind(topology, used, step);
+                (from, ",", to, others, UpTo(topology, used, step)).write(sink)
             }
             None => Ok(()),
         }

@@ -1,36 +1,40 @@
 //! Writing a layer as a sequence of GeoJSON features, a line each, piece by piece and with no memory.
 ghost use Rattle.query.specs.ByArcs.{geom_text};
-ghost use Rattle.query.specs.Sequences.{lines, layer_lines, lines_by_arcs, map_lines};
+ghost use Rattle.query.specs.Sequences.{lines, layer_lines, map_lines};
 ghost use Rattle.query.specs.declared.layer_text.fault.LayerFault.TheVariants.{NoLayer, Write};
 ghost use Rattle.sinks.specs.Writes.{TookAll, TookPart};
 ghost use Rattle.std.specs.FinMap as map;
-ghost use Rattle.std.specs.Prelude.{◌≡◌, ◌↔◌, Err, IfErr, IsTrue, OnErr, OnOk};
+ghost use Rattle.std.specs.Prelude.{◌≡◌, ◌↔◌, ◌++◌, Err, IfErr, IsTrue, OnErr, OnOk, codes};
 ghost use Rattle.topo.specs.ItsMap.{ForItsMap};
 
 use crate::layer_text::collection::GeometriesOf;
 use crate::layer_text::fault::LayerFault;
-use sinks::written::{Noted, Text, Then, Written};
+use sinks::written::{InTurn, Notation, Noted, Written};
 use sinks::{Sink, WriteFault};
 use topo::{Geom, Layer, Topology};
 
-/// Writes the features of geometries, each with a newline behind it.
-fn write_lines<W: Sink>(
-    topology: &Topology,
-    geometries: &[Geom],
-    sink: &mut W,
-) -> Result<(), WriteFault>
-    ensures whole { OnOk result (TookAll (W.seen sink.old) (W.seen sink.new) (lines (geom_text topology.now) geometries.now)) }
-    ensures part { OnErr result (TookPart (W.seen sink.old) (W.seen sink.new) (lines (geom_text topology.now) geometries.now)) }
-{
-    let mut left = geometries;
-    while let Some((geometry, after)) = left.split_first() {
-        let line = Then(Noted(geometry, &GeometriesOf(topology)), Text(b"\n"));
-        match line.write(sink) {
-            Ok(()) => left = after,
-            Err(fault) => return Err(fault),
-        }
+/// Geometries as features, each with a newline behind it.
+#[derive(Clone, Copy)]
+struct FeatureLines<'a>(&'a Topology);
+
+impl<'a> Notation<Geom> for FeatureLines<'a> {
+    ghost text = { λ l g. geom_text l.0.now g ++ codes "\n" };
+
+    fn write_value<W: Sink>(&self, value: &Geom, sink: &mut W) -> Result<(), WriteFault> {
+        (Noted(value, &GeometriesOf(self.0)), "\n").write(sink)
     }
-    Ok(())
+}
+
+/// The features of layers, each with a newline behind it.
+#[derive(Clone, Copy)]
+struct LayerSequences<'a>(&'a Topology);
+
+impl<'a> Notation<Layer> for LayerSequences<'a> {
+    ghost text = { λ l layer. lines (geom_text l.0.now) layer.geometries };
+
+    fn write_value<W: Sink>(&self, value: &Layer, sink: &mut W) -> Result<(), WriteFault> {
+        InTurn(value.geometries(), &FeatureLines(self.0)).write(sink)
+    }
 }
 
 /// Writes the features of a layer, in their order, as GeoJSON Features in absolute numbers: each is one compact
@@ -52,7 +56,7 @@ pub fn write_sequence<W: Sink>(
     let Some(geometries) = topology.geometries(layer) else {
         return Err(LayerFault::NoLayer);
     };
-    match write_lines(topology, geometries, sink) {
+    match InTurn(geometries, &FeatureLines(topology)).write(sink) {
         Ok(()) => Ok(()),
         Err(WriteFault::Write) => Err(LayerFault::Write),
     }
@@ -67,24 +71,5 @@ pub fn write_sequences<W: Sink>(topology: &Topology, sink: &mut W) -> Result<(),
     ensures whole { OnOk result (ForItsMap topology.now (λ m. TookAll (W.seen sink.old) (W.seen sink.new) (map_lines topology.now.grid m))) }
     ensures part { OnErr result (ForItsMap topology.now (λ m. TookPart (W.seen sink.old) (W.seen sink.new) (map_lines topology.now.grid m))) }
 {
-    write_layers(topology, topology.layers(), sink)
-}
-
-/// Writes the features of layers, each with a newline behind it.
-fn write_layers<W: Sink>(
-    topology: &Topology,
-    layers: &[Layer],
-    sink: &mut W,
-) -> Result<(), WriteFault>
-    ensures whole { OnOk result (TookAll (W.seen sink.old) (W.seen sink.new) (lines_by_arcs topology.now layers.now)) }
-    ensures part { OnErr result (TookPart (W.seen sink.old) (W.seen sink.new) (lines_by_arcs topology.now layers.now)) }
-{
-    let mut left = layers;
-    while let Some((layer, after)) = left.split_first() {
-        match write_lines(topology, layer.geometries(), sink) {
-            Ok(()) => left = after,
-            Err(fault) => return Err(fault),
-        }
-    }
-    Ok(())
+    InTurn(topology.layers(), &LayerSequences(topology)).write(sink)
 }

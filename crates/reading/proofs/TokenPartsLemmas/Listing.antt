@@ -15,12 +15,12 @@ use Rattle.reading.proofs.TokensLemmas.Lists.{array_read, never_closed}
 use Rattle.reading.proofs.TokensLemmas.Reading.{gives_shorter, item_read}
 
 module _ {X : Type 0} (F : Data → List Pair) (R : Data → X → Type 0) where
-  none_each : (i : ℕ) (ds : List Data) (xs : List X) → AllZip (Meets F R) ds xs → each_faults F i ds ≡ []
+  pub none_each : (i : ℕ) (ds : List Data) (xs : List X) → AllZip (Meets F R) ds xs → each_faults F i ds ≡ []
   none_each i [] xs h = refl
   none_each i (d ∷ ds) [] h = absurd h
   none_each i (d ∷ ds) (x ∷ xs) h = ap (λ ps. under (index i) ps ++ each_faults F (i + 1) ds) h.0.0 ∙ none_each (i + 1) ds xs h.1
 
-  mean_each : (ds : List Data) (xs : List X) → AllZip (Meets F R) ds xs → AllZip R ds xs
+  pub mean_each : (ds : List Data) (xs : List X) → AllZip (Meets F R) ds xs → AllZip R ds xs
   mean_each [] [] h = tt
   mean_each [] (x ∷ xs) h = absurd h
   mean_each (d ∷ ds) [] h = absurd h

@@ -19,6 +19,9 @@ pub enum Wanted {
     All,
 }
 
+/// The faults that were found, or that memory was refused.
+pub type Faults = Result<Vec<Fault>, OutOfMemory>;
+
 /// Whether no more faults are wanted than those that were found.
 pub fn is_enough(wanted: Wanted, found: &[Fault]) -> bool
     ensures { result ≡ is_full wanted (pairs_of found.now) }
@@ -37,7 +40,7 @@ pub fn is_enough(wanted: Wanted, found: &[Fault]) -> bool
 /// # Errors
 /// Where memory is refused.
 #[tactic(auto, using(crate::proofs::FaultListsLemmas::Kept::one_here))]
-pub fn one(alloc: Global, kind: FaultKind) -> Result<Vec<Fault>, OutOfMemory>
+pub fn one(alloc: Global, kind: FaultKind) -> Faults
     ensures { IfOk result (λ fs. AtMostOne (here kind) (pairs_of fs.items)) }
 {
     let mut found = Vec::new(alloc);
@@ -96,7 +99,7 @@ pub fn put_under_name(
 ///
 /// # Errors
 /// Where memory is refused.
-pub fn under_name(alloc: Global, part: Vec<Fault>, member: &str) -> Result<Vec<Fault>, OutOfMemory>
+pub fn under_name(alloc: Global, part: Vec<Fault>, member: &str) -> Faults
     ensures { IfOk result (λ fs. pairs_of fs.items ≡ under (name_turn member.now) (pairs_of part.items)) }
 {
     let mut found = Vec::new(alloc);
@@ -108,7 +111,7 @@ pub fn under_name(alloc: Global, part: Vec<Fault>, member: &str) -> Result<Vec<F
 ///
 /// # Errors
 /// Where memory is refused.
-pub fn join(first: Vec<Fault>, others: Vec<Fault>) -> Result<Vec<Fault>, OutOfMemory>
+pub fn join(first: Vec<Fault>, others: Vec<Fault>) -> Faults
     ensures { IfOk result (λ fs. fs.items ≡ first.items ++ others.items) }
 {
     if first.is_empty() {
@@ -136,7 +139,7 @@ pub fn first_or_none(found: Vec<Fault>) -> Result<(), Fault>
 ///
 /// # Errors
 /// Where memory is refused.
-pub fn one_of(alloc: Global, kind: FaultKind) -> Result<Vec<Fault>, OutOfMemory>
+pub fn one_of(alloc: Global, kind: FaultKind) -> Faults
     ensures { IfOk result (λ fs. (kind ≢ WantOfMemory) × AtMostOne (here kind) (pairs_of fs.items)) }
 {
     match kind {

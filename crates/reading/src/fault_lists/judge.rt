@@ -6,9 +6,9 @@ ghost use Rattle.serde_json.specs.Data.{Data};
 ghost use Rattle.serde_json.specs.View.{view};
 ghost use Rattle.std.specs.Prelude.{List, map, IfOk};
 
-use crate::fault_lists::found::{Wanted, is_enough, one, put_under_index};
-use faults::OutOfMemory;
-use faults::fault::{Fault, FaultKind};
+use crate::fault_lists::found::{Faults, Wanted, is_enough, one, put_under_index};
+use crate::parts::part::Part;
+use faults::fault::FaultKind;
 use serde_json::Value;
 use std::alloc::Global;
 
@@ -17,17 +17,12 @@ pub trait Judge {
     ghost faults: { Self → Data → List Pair };
 
     /// The value's faults, or the first of them, with their paths from this value.
-    fn judge(&self, alloc: Global, wanted: Wanted, value: &Value) -> Result<Vec<Fault>, OutOfMemory>
+    fn judge(&self, alloc: Global, wanted: Wanted, value: &Value) -> Faults
         ensures { IfOk result (λ fs. AreFound wanted (faults self.now (view value.now)) (pairs_of fs.items)) };
 }
 
 #[tactic(auto, using(crate::proofs::FaultListsLemmas::Wholes::each_next, crate::proofs::FaultListsLemmas::Wholes::each_enough, crate::proofs::FaultListsLemmas::Wholes::each_end, crate::proofs::FaultListsLemmas::Kept::so_far_none))]
-fn judge_each<J: Judge>(
-    alloc: Global,
-    wanted: Wanted,
-    of: &J,
-    values: &[Value],
-) -> Result<Vec<Fault>, OutOfMemory>
+fn judge_each<J: Judge>(alloc: Global, wanted: Wanted, of: &J, values: &[Value]) -> Faults
     ensures { IfOk result (λ fs. AreFound wanted (each_faults (J.faults of.now) 0 (map view values.now)) (pairs_of fs.items)) }
 {
     let mut found = Vec::new(alloc);
@@ -46,12 +41,7 @@ fn judge_each<J: Judge>(
 /// # Errors
 /// Where memory is refused.
 #[tactic(auto, using(crate::proofs::FaultListsLemmas::Wholes::array_found, crate::proofs::FaultListsLemmas::Wholes::array_none))]
-pub fn judge_list<J: Judge>(
-    alloc: Global,
-    wanted: Wanted,
-    of: &J,
-    value: &Value,
-) -> Result<Vec<Fault>, OutOfMemory>
+pub fn judge_list<J: Judge>(alloc: Global, wanted: Wanted, of: &J, value: &Value) -> Faults
     ensures { IfOk result (λ fs. AreFound wanted (list_faults (J.faults of.now) (view value.now)) (pairs_of fs.items)) }
 {
     match value.as_array() {
@@ -67,7 +57,7 @@ fn judge_two<J: Judge, K: Judge>(
     first: &J,
     second: &K,
     values: &[Value],
-) -> Result<Vec<Fault>, OutOfMemory>
+) -> Faults
     ensures { IfOk result (λ fs. AreFound wanted (two_faults (J.faults first.now) (K.faults second.now) (map view values.now)) (pairs_of fs.items)) }
 {
     if values.len() != 2 {
@@ -96,12 +86,20 @@ pub fn judge_pair<J: Judge, K: Judge>(
     first: &J,
     second: &K,
     value: &Value,
-) -> Result<Vec<Fault>, OutOfMemory>
+) -> Faults
     ensures { IfOk result (λ fs. AreFound wanted (pair_faults (J.faults first.now) (K.faults second.now) (view value.now)) (pairs_of fs.items)) }
 {
     match value.as_array() {
         Some(items) => { Ok(judge_two(alloc, wanted, first, second, items)?) }
         None => { Ok(one(alloc, FaultKind::WrongKind)?) }
+    }
+}
+
+impl<P: Part> Judge for P {
+    ghost faults = { P.faults };
+
+    fn judge(&self, alloc: Global, wanted: Wanted, value: &Value) -> Faults {
+        Part::judge(self, alloc, wanted, value)
     }
 }
 
@@ -114,12 +112,7 @@ pub struct ListOf<J> {
 impl<J: Judge> Judge for ListOf<J> {
     ghost faults = { λ p. list_faults (J.faults p.of) };
 
-    fn judge(
-        &self,
-        alloc: Global,
-        wanted: Wanted,
-        value: &Value,
-    ) -> Result<Vec<Fault>, OutOfMemory> {
+    fn judge(&self, alloc: Global, wanted: Wanted, value: &Value) -> Faults {
         judge_list(alloc, wanted, &self.of, value)
     }
 }

@@ -1,39 +1,14 @@
 //! Faults of members of objects.
 ghost use Rattle.reading.specs.FaultLists.Found.{AreFound, pairs_of};
-ghost use Rattle.reading.specs.Parts.{option_faults, member_faults, each_member_faults};
+ghost use Rattle.reading.specs.Parts.{member_faults, each_member_faults};
 ghost use Rattle.serde_json.specs.View.{view, members_view};
 ghost use Rattle.std.specs.Prelude.{IfOk};
 
-use crate::fault_lists::found::{Wanted, is_enough, one, put_under_name, under_name};
+use crate::fault_lists::found::{Faults, Wanted, is_enough, one, put_under_name, under_name};
 use crate::fault_lists::judge::Judge;
-use faults::OutOfMemory;
-use faults::fault::{Fault, FaultKind};
+use faults::fault::FaultKind;
 use serde_json::{Map, Value};
 use std::alloc::Global;
-
-/// A member that may be missing.
-///
-/// # Errors
-/// Where memory is refused.
-#[tactic(auto, using(crate::proofs::FaultListsLemmas::Wholes::option_none, crate::proofs::FaultListsLemmas::Wholes::option_some))]
-pub fn judge_option<J: Judge>(
-    alloc: Global,
-    wanted: Wanted,
-    of: &J,
-    value: &Value,
-    member: &str,
-) -> Result<Vec<Fault>, OutOfMemory>
-    ensures { IfOk result (λ fs. AreFound wanted (option_faults member.now (J.faults of.now) (view value.now)) (pairs_of fs.items)) }
-{
-    match value.get(member) {
-        None => Ok(Vec::new(alloc)),
-        Some(there) => {
-            let part = of.judge(alloc, wanted, there)?;
-            let found = under_name(alloc, part, member)?;
-            Ok(found)
-        }
-    }
-}
 
 /// A member that has to be there; a missing one is reported at its own path.
 ///
@@ -46,7 +21,7 @@ pub fn judge_member<J: Judge>(
     of: &J,
     value: &Value,
     member: &str,
-) -> Result<Vec<Fault>, OutOfMemory>
+) -> Faults
     ensures { IfOk result (λ fs. AreFound wanted (member_faults member.now (J.faults of.now) (view value.now)) (pairs_of fs.items)) }
 {
     match value.get(member) {
@@ -73,7 +48,7 @@ pub fn judge_each_member<J: Judge>(
     wanted: Wanted,
     of: &J,
     members: &Map<String, Value>,
-) -> Result<Vec<Fault>, OutOfMemory>
+) -> Faults
     ensures { IfOk result (λ fs. AreFound wanted (each_member_faults (J.faults of.now) (members_view members.now.entries)) (pairs_of fs.items)) }
 {
     let mut found = Vec::new(alloc);

@@ -5,11 +5,10 @@ ghost use Rattle.reading.specs.Shapes.{shape_faults};
 ghost use Rattle.serde_json.specs.View.{view};
 ghost use Rattle.std.specs.Prelude.{IfOk};
 
-use crate::fault_lists::found::{Wanted, one_of};
+use crate::fault_lists::found::{Faults, Wanted, one_of};
 use crate::fault_lists::judge::{Judge, ListOf};
 use crate::geometry::GeometryType;
 use crate::outline::{Outline, read_outline};
-use faults::OutOfMemory;
 use faults::fault::Fault;
 use grid::pos::Pos;
 use serde_json::Value;
@@ -20,10 +19,7 @@ use std::alloc::Global;
 /// # Errors
 /// Where memory is refused.
 #[tactic(auto, using(crate::proofs::FaultListsLemmas::Wholes::outline_means, crate::proofs::FaultListsLemmas::Kept::one_none))]
-pub fn judge_outline<O: Outline>(
-    alloc: Global,
-    positions: Vec<Pos>,
-) -> Result<Vec<Fault>, OutOfMemory>
+pub fn judge_outline<O: Outline>(alloc: Global, positions: Vec<Pos>) -> Faults
     ensures { IfOk result (λ fs. AtMostOne (outline_faults (O.fault positions.items)) (pairs_of fs.items)) }
 {
     let made: Result<O, Fault> = read_outline(alloc, positions);
@@ -51,7 +47,7 @@ pub fn judge_shape<P: Judge + Copy, L: Judge + Copy, R: Judge + Copy>(
     parts: &ShapeParts<P, L, R>,
     kind: GeometryType,
     value: &Value,
-) -> Result<Vec<Fault>, OutOfMemory>
+) -> Faults
     ensures { IfOk result (λ fs. AreFound wanted (shape_faults (P.faults parts.now.position) (L.faults parts.now.line) (R.faults parts.now.ring) kind (view value.now)) (pairs_of fs.items)) }
 {
     match kind {

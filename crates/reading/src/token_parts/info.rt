@@ -5,7 +5,6 @@ ghost use Rattle.shapes.specs.Parts.{properties_text};
 ghost use Rattle.std.specs.Prelude.{◌≡◌, codes, IfOk};
 ghost use Rattle.reading.specs.TokenParts.Members.{KnowsProps};
 
-use crate::info::no_properties;
 use crate::tokens::from_tokens::Stop;
 use shapes::props::Props;
 use std::alloc::Global;
@@ -16,7 +15,7 @@ pub fn props_or_empty(alloc: Global, props: Option<Props>) -> Result<Props, Stop
 {
     match props {
         Some(props) => Ok(props),
-        None => match no_properties(alloc) {
+        None => match Props::empty(alloc) {
             Ok(props) => Ok(props),
             Err(_) => Err(Stop::OutOfMemory),
         },

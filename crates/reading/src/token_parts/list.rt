@@ -32,26 +32,3 @@ pub fn single<T: Drop>(alloc: Global, first: T) -> Result<Vec<T>, Stop>
         Err(_) => Err(Stop::OutOfMemory),
     }
 }
-
-/// The reader of arrays of such parts, which is a reader of parts itself.
-#[derive(Clone, Copy)]
-pub struct ListOf<P> {
-    pub of: P,
-}
-
-impl<P: FromTokens> FromTokens for ListOf<P> {
-    type Made = Vec<P::Made>;
-
-    ghost faults = { λ p. list_faults (P.faults p.of) };
-
-    ghost means = { λ p d xs. AllZip (P.means p.of) (elements d) xs.items };
-
-    fn read<'a>(
-        &self,
-        alloc: Global,
-        reader: &mut Reader<'a>,
-        depth: usize,
-    ) -> Result<Vec<P::Made>, Stop> {
-        read_list(alloc, &self.of, reader, depth)
-    }
-}

@@ -5,24 +5,13 @@
 ghost use Rattle.json.specs.Token as spec;
 ghost use Rattle.json.specs.Token.{Token as SpecToken};
 ghost use Rattle.reading.specs.Tokens.Reads.{Reads};
-ghost use Rattle.std.specs.Prelude.{◌≡◌, ◌∷◌, [], List, IfOk, MatchOption};
+ghost use Rattle.std.specs.Prelude.{◌≡◌, ◌∷◌, [], List, IfOk};
 
-use crate::token_parts::list::{ListOf, single};
 use crate::tokens::from_tokens::{FromTokens, Stop};
-use crate::tokens::list::read_rest;
-use json::{Reader, Token};
+use json::Reader;
 use std::alloc::Global;
 
-/// Takes a number and gives its text, or takes the bracket that opens an array and gives none.
-pub fn number_or_array<'a>(reader: &mut Reader<'a>) -> Result<Option<&'a str>, Stop>
-    ensures { IfOk result (λ o. MatchOption o (reader.old ≡ spec.begin_array ∷ reader.new) (λ s. reader.old ≡ spec.number s.now ∷ reader.new)) }
-{
-    match reader.next() {
-        Some(Token::Number(x)) => Ok(Some(x)),
-        Some(Token::BeginArray) => Ok(None),
-        _ => Err(Stop::Unread),
-    }
-}
+pub use json_parts::token::number_or_array;
 
 /// What reads a part that begins with brackets and a number.
 pub trait FromOpened: FromTokens {
@@ -39,23 +28,4 @@ pub trait FromOpened: FromTokens {
         depth: usize,
     ) -> Result<Self::Made, Stop>
         ensures { IfOk result (λ v. Reads (Self.faults self.now) (Self.means self.now) depth (opening self.now (spec.number x.now ∷ reader.old)) reader.new v) };
-}
-
-impl<P: FromOpened> FromOpened for ListOf<P> {
-    ghost opening = { λ p ts. spec.begin_array ∷ P.opening p.of ts };
-
-    fn read_opened<'a>(
-        &self,
-        alloc: Global,
-        x: &'a str,
-        reader: &mut Reader<'a>,
-        depth: usize,
-    ) -> Result<Vec<P::Made>, Stop> {
-        if depth == 0 {
-            return Err(Stop::Unread);
-        }
-        let first = self.of.read_opened(alloc, x, reader, depth - 1)?;
-        let found = single(alloc, first)?;
-        read_rest(alloc, &self.of, reader, depth - 1, found)
-    }
 }

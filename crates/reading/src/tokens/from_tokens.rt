@@ -7,14 +7,7 @@ ghost use Rattle.std.specs.Prelude.{◌<◌, length, List, IfOk, OnOk};
 use json::Reader;
 use std::alloc::Global;
 
-/// Why a reader stopped. Neither says that the text has a fault.
-#[derive(Clone, Copy, PartialEq, Eq, Debug, Drop)]
-pub enum Stop {
-    /// The text has to be read in another way.
-    Unread,
-    /// There was no memory for what was read.
-    OutOfMemory,
-}
+pub use json_parts::Stop;
 
 /// What reads one kind of part off the tokens.
 pub trait FromTokens {

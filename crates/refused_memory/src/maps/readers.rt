@@ -56,6 +56,13 @@ fn read_parts(alloc: Global, worked: &Worked) -> Answer {
     }
 }
 
+fn read_parts_as_value(alloc: Global, worked: &Worked) -> Answer {
+    match topo_io::read_parts_as_value(alloc, worked.text.as_slice()) {
+        Ok(parts) => Answer::of(are_parts_of(&parts, &worked.topology)),
+        Err(fault) => Answer::of_fault(&fault),
+    }
+}
+
 fn is_canonical(alloc: Global, worked: &Worked) -> Answer {
     match topo_io::is_canonical(alloc, worked.text.as_slice()) {
         Ok(is_canonical) => Answer::of(is_canonical),
@@ -117,7 +124,8 @@ pub(crate) fn test(rt: &HostRuntime, tally: &mut Tally, worked: &Worked) {
     calls!(tally.ask(rt, worked.row.title, worked);
         "geojson_io::read" => read_geojson,
         "topo_io::read" => read_topology,
-        "topo_io::read_parts" => read_parts,
+        "topo_text::read_parts" => read_parts,
+        "topo_io::read_parts_as_value" => read_parts_as_value,
         "topo_io::is_canonical" => is_canonical,
         "Topology::build" => build,
         "Topology::build_owned" => build_owned,

@@ -9,6 +9,7 @@ use refused_calls::outcome::{Answer, Tally};
 use shapes::FeatureMap;
 use sinks::{Kept, Refused, Script, Sink, WriteFault};
 use std::alloc::Global;
+use topo_io::Canonical;
 
 fn judge_text(made: Result<Vec<u8>, OutOfMemory>, worked: &Worked) -> Answer {
     match made {
@@ -19,6 +20,11 @@ fn judge_text(made: Result<Vec<u8>, OutOfMemory>, worked: &Worked) -> Answer {
 
 fn text_of(alloc: Global, worked: &Worked) -> Answer {
     judge_text(topo_io::text_of(alloc, &worked.topology), worked)
+}
+
+/// The text of a value, in memory.
+fn to_bytes(alloc: Global, worked: &Worked) -> Answer {
+    judge_text(sinks::to_bytes(alloc, &Canonical(&worked.topology)), worked)
 }
 
 /// Written into a sink in memory.
@@ -103,6 +109,7 @@ fn union(_: Global, worked: &Worked) -> Answer {
 pub(crate) fn test(rt: &HostRuntime, tally: &mut Tally, worked: &Worked) {
     calls!(tally.ask(rt, worked.row.title, worked);
         "topo_io::text_of" => text_of,
+        "sinks::to_bytes" => to_bytes,
         "topo_io::write" => write,
         "Kept::offer" => offer_to_kept,
         "Script::offer" => offer_to_script,

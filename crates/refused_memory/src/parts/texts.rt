@@ -2,7 +2,7 @@
 
 use faults::{Fault, FaultKind, OutOfMemory};
 use geojson_io::reader::read_as_value;
-use geojson_io::token_reader::read_features;
+use geojson_io::token_reader::{TextRead, read_features};
 use grid::Grid;
 use reading::tokens::from_tokens::Stop;
 use refused_calls::calls::Borrowed;
@@ -59,7 +59,8 @@ fn read_value(alloc: Global, square: &Square) -> Result<bool, OutOfMemory> {
 
 fn read_tokens(alloc: Global, square: &Square) -> Result<bool, OutOfMemory> {
     match read_features(alloc, GEOJSON.as_bytes(), &square.grid) {
-        Ok(features) => Ok(are_features(features.as_slice(), &square.map)),
+        Ok(TextRead::Read(features)) => Ok(are_features(features.as_slice(), &square.map)),
+        Ok(_) => Ok(false),
         // So it stops too where memory is refused to a part that is read by way of its value.
         Err(Stop::OutOfMemory | Stop::Unread) => Err(OutOfMemory),
     }

@@ -1,4 +1,4 @@
--- The members `id` and `properties` of a written text.
+-- Ids, and the members `id` and `properties`, as they are written.
 use Rattle.std.specs.Prelude.{ℕ, List, [], ◌++◌, codes, if◌then◌else◌}
 use Rattle.std.specs.Fmt.{signed_decimal}
 use Rattle.std.specs.Str.{bytes_eq}
@@ -6,6 +6,12 @@ use Rattle.shapes.specs.Parts.{spelled_text}
 use Rattle.shapes.specs.Spelling.{spelling_of}
 use Rattle.shapes.specs.declared.shape.Id.{Id}
 use Rattle.shapes.specs.declared.shape.Id.TheVariants as id
+
+-- an id as a JSON value, null where there is none [RFC 8259; own]
+abbrev pub id_value_text : Id → List ℕ
+id_value_text id.None = codes "null"
+id_value_text (id.Number n) = signed_decimal n
+id_value_text (id.Text s) = spelling_of (spelled_text s)
 
 -- nothing where there is no id, else the member and a comma
 abbrev pub id_text : Id → List ℕ

@@ -2,11 +2,9 @@
 ghost use Rattle.reading.specs.FaultLists.Found.{AreFound, pairs_of};
 ghost use Rattle.serde_json.specs.View.{view};
 ghost use Rattle.std.specs.Prelude.{IfOk};
-ghost use Rattle.topo_io.specs.Geometries.{body_faults, shape_faults, typed_faults_of, geometry_faults};
+ghost use Rattle.topo_text.specs.Geometries.{body_faults, shape_faults, typed_faults_of, geometry_faults};
 ghost use Rattle.topo_io.specs.Named.{named};
 
-use crate::reader::geometry::{body_name, geometry_type};
-use crate::reader::position::DeltaPosition;
 use crate::validity::list::{Known, ListIn, OutlineType};
 use faults::OutOfMemory;
 use faults::fault::{Fault, FaultKind};
@@ -19,6 +17,9 @@ use reading::fault_lists::types::type_fault;
 use reading::geometry::GeometryType;
 use serde_json::Value;
 use std::alloc::Global;
+use topo_text::reader::body::body_name;
+use topo_text::reader::geometry::geometry_type;
+use topo_text::reader::position::DeltaPosition;
 
 /// The body of a geometry of that type.
 #[derive(Clone, Copy)]

@@ -3,7 +3,7 @@ ghost use Rattle.reading.specs.FaultLists.Found.{AtMostOne, pairs_of};
 ghost use Rattle.reading.specs.Numbers.{element_faults};
 ghost use Rattle.serde_json.specs.View.{view};
 ghost use Rattle.std.specs.Prelude.{IfOk};
-ghost use Rattle.topo_io.specs.Arcs.{index_faults, no_arc_faults};
+ghost use Rattle.topo_text.specs.Arcs.{index_faults, no_arc_faults};
 ghost use Rattle.topo_io.specs.Named.{named};
 
 use chains::ArcRef;

@@ -2,12 +2,10 @@
 ghost use Rattle.reading.specs.FaultLists.Found.{AreFound, pairs_of};
 ghost use Rattle.serde_json.specs.View.{view};
 ghost use Rattle.std.specs.Prelude.{IfOk};
-ghost use Rattle.topo_io.specs.Geometries.{typed_layer_faults, layer_faults};
+ghost use Rattle.topo_text.specs.Geometries.{typed_layer_faults, layer_faults};
 ghost use Rattle.topo_io.specs.Named.{named};
-ghost use Rattle.topo_io.specs.Roots.{objects_faults};
+ghost use Rattle.topo_text.specs.Roots.{objects_faults};
 
-use crate::reader::layer::layer_type;
-use crate::reader::layer_type::LayerType;
 use crate::validity::geometry::{GeometryIn, judge_as};
 use crate::validity::list::Known;
 use faults::OutOfMemory;
@@ -18,6 +16,8 @@ use reading::fault_lists::members::{judge_each_member, judge_member};
 use reading::fault_lists::types::type_fault;
 use serde_json::Value;
 use std::alloc::Global;
+use topo_text::reader::layer::layer_type;
+use topo_text::reader::layer_type::LayerType;
 
 fn judge_typed(
     alloc: Global,

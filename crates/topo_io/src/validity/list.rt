@@ -6,12 +6,11 @@ ghost use Rattle.reading.specs.Outlines.{outline_kind};
 ghost use Rattle.reading.specs.Parts.{list_faults};
 ghost use Rattle.serde_json.specs.View.{view};
 ghost use Rattle.std.specs.Prelude.{◌≡◌, [], IfOk, IfErr, OnOk};
-ghost use Rattle.topo_io.specs.Arcs.{index_faults, known, stitched_list_faults};
+ghost use Rattle.topo_text.specs.Arcs.{index_faults, known, stitched_list_faults};
 ghost use Rattle.topo_io.specs.Named.{named};
 ghost use Rattle.topo_io.specs.Validity.{fault_of, faults_as, used_faults};
 
-use crate::reader::position::Limits;
-use crate::reader::stitching::{IndexOf, stitched_to};
+use crate::stitching::stitched_to;
 use crate::validity::index::{IndexIn, Named};
 use chains::ArcRef;
 use faults::OutOfMemory;
@@ -25,6 +24,8 @@ use reading::fault_lists::judge::{Judge, judge_list as judge_indexes};
 use reading::part::read_list;
 use serde_json::Value;
 use std::alloc::Global;
+use topo_text::reader::index::IndexOf;
+use topo_text::reader::position::Limits;
 
 /// What a list of arcs is to stitch to.
 #[derive(Clone, Copy, PartialEq, Eq, Debug)]
@@ -182,7 +183,8 @@ fn judge_used(
 ) -> Result<Vec<Fault>, OutOfMemory>
     ensures { IfOk result (λ fs. AtMostOne (stitched_list_faults (known lists.now.arcs.now) (faults_as kind) (view value.now)) (pairs_of fs.items)) }
 {
-    match read_list(alloc, &IndexOf { arcs: lists.arcs }, value) {
+    let count = lists.arcs.len();
+    match read_list(alloc, &IndexOf { count }, value) {
         Ok(used) => Ok(judge_outline(alloc, lists, kind, &used)?),
         Err(_) => Err(OutOfMemory),
     }

@@ -3,7 +3,7 @@ ghost use Rattle.std.specs.List.{AllByRecursion};
 ghost use Rattle.std.specs.Prelude.{◌≡◌, [], IfOk, map as map_list, true};
 ghost use Rattle.theory.specs.Lists.{joined};
 ghost use Rattle.topo.specs.OfMap.{body_of};
-ghost use Rattle.topo_io.specs.Parts.{plain_geom, layer_of_geoms};
+ghost use Rattle.topo_text.specs.Parts.{plain_geom, layer_of_geoms};
 ghost use Rattle.topo_io.specs.Stitching.{BodyStitches, GeomStitches, LayerStitches};
 ghost use Rattle.topo_io.specs.Validity.{IsJudged, used_faults};
 

@@ -158,6 +158,10 @@ impl Placed<'_> {
         self.square.shape.fits(&self.fine) && !self.far.shape.fits(&self.coarse)
     }
 
+    fn has_kind(&self) -> bool {
+        self.square.shape.kind_name() == "Polygon" && !self.square.shape.has_positions()
+    }
+
     fn map_fits(&self, features: &Features) -> bool {
         features.map.fits(&self.fine) && !features.far.fits(&self.coarse)
     }
@@ -175,6 +179,9 @@ impl Placed<'_> {
             "Props::text" => self.square.props.text() == "{\"n\":1}",
             "Feature::fits" => self.fits(),
             "Shape::fits" => self.shape_fits(),
+            "Form::is_null" => !self.square.shape.is_null(),
+            "Form::has_positions" => self.has_kind(),
+            "Form::kind_name" => self.has_kind(),
             "FeatureMap::fits" => self.map_fits(features),
             "FeatureMap::contains" => self.has_feature(&features.map),
         );

@@ -3,7 +3,7 @@
 use refused_calls::handed::Handed;
 use refused_calls::outcome::Tally;
 use refused_calls::rows;
-use sinks::written::{Itself, Notation, Number, Written, write_framed};
+use sinks::written::{Notation, Number, Numbers, Written, has_some, write_framed};
 use sinks::{Kept, Script, Sink, Tap, WriteFault, put};
 use std::alloc::Global;
 use std::io::Cursor;
@@ -58,21 +58,25 @@ fn writes_number() -> bool {
 
 fn writes_value() -> bool {
     let mut place = room();
-    Itself
-        .write_value(&Number(7), &mut Tap::new(&mut place))
-        .is_ok()
+    Numbers.write_value(&7, &mut Tap::new(&mut place)).is_ok()
         && is_written(&place, b"7\0\0\0\0\0\0\0")
 }
 
-const GIVEN: &[Number] = &[Number(3), Number(0)];
+fn writes_after_comma() -> bool {
+    let mut place = room();
+    let written = Numbers.write_after_comma(&7, &mut Tap::new(&mut place));
+    written.is_ok() && is_written(&place, b",7\0\0\0\0\0\0")
+}
+
+const GIVEN: &[i64] = &[3, 0];
 
 fn writes_framed() -> bool {
     let mut place = room();
     let written = write_framed(
         &mut Tap::new(&mut place),
         b"<",
-        &Itself,
-        &mut GIVEN.iter(),
+        &Numbers,
+        &mut GIVEN.iter().copied(),
         b">",
     );
     written.is_ok() && is_written(&place, b"<3,0>\0\0\0")
@@ -96,6 +100,8 @@ fn test_writers(rt: &HostRuntime, tally: &mut Tally) {
     rows!(rt, tally;
         "Written::write" => writes_number(),
         "Notation::write_value" => writes_value(),
+        "Notation::write_after_comma" => writes_after_comma(),
+        "sinks::has_some" => has_some(true, 0) && !has_some(false, 0),
         "sinks::write_framed" => writes_framed(),
     );
 }

@@ -1,16 +1,16 @@
 //! Files that are read along their tokens alone.
 
 use crate::texts::Format;
+use geojson_io::token_reader::{TextRead, read_features};
 use std::fs;
 
 fn is_read(rt: &HostRuntime, format: &Format, bytes: &[u8]) -> bool {
     match format {
         Format::Topology => topo_io::read_parts(rt.alloc(), bytes).is_ok(),
-        Format::Geojson(grid) => geojson_io::token_reader::read_features(
-            rt.alloc(),
-            bytes,
-            grid,
-        ).is_ok(),
+        Format::Geojson(grid) => matches!(
+            read_features(rt.alloc(), bytes, grid),
+            Ok(TextRead::Read(_))
+        ),
     }
 }
 

@@ -10,6 +10,17 @@ use std::alloc::Global;
 use std::fs;
 use topo::Topology;
 
+/// The grid and the map of a topology's text. None of its arcs is taken as it is: the features are stitched.
+fn read_topology(alloc: Global, bytes: &[u8]) -> Option<Result<(Grid, FeatureMap), Fault>> {
+    match topo_io::read_parts_as_value(alloc, bytes) {
+        Ok(parts) => {
+            let map = topo_io::map_of_parts(alloc, &parts.arcs, parts.layers).ok()??;
+            Some(Ok((parts.grid, map)))
+        }
+        Err(fault) => Some(Err(fault)),
+    }
+}
+
 /// The grid and the map that a text means.
 fn read_map(
     alloc: Global,
@@ -17,7 +28,7 @@ fn read_map(
     bytes: &[u8],
 ) -> Option<Result<(Grid, FeatureMap), Fault>> {
     let grid = match format {
-        Format::Topology => return Some(topo_io::read(alloc, bytes)),
+        Format::Topology => return read_topology(alloc, bytes),
         Format::Geojson(grid) => grid,
     };
     match geojson_io::reader::read_as_value(alloc, bytes, &grid) {

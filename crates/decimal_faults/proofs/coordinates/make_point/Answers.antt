@@ -1,7 +1,7 @@
 use Rattle.std.proofs.Common.{◌≡◌, [], false, Err, ap, subst, if◌then◌else◌}
 use Rattle.json.specs.Find.{as_array}
 use Rattle.json.specs.Value.{value_view}
-use Rattle.decimal_maps.specs.declared.from_tokens.Stop.TheVariants.{Unread}
+use Rattle.json_parts.specs.declared.stop.Stop.TheVariants.{Unread}
 use Rattle.decimal_faults.specs.Geometries.{is_nothing}
 use Rattle.decimal_faults.specs.Positions.{position_faults}
 use Rattle.decimal_faults.proofs.coordinates.make_point.Goals as goal

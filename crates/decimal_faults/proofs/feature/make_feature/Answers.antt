@@ -6,7 +6,7 @@ use Rattle.attributes.specs.Refusals.{attributes_faults}
 use Rattle.reading.proofs.Faultless.{first_none, second_none}
 use Rattle.decimal_maps.specs.Features.{HaveAttributes, or_null}
 use Rattle.decimal_maps.specs.Geometries.{IsGeometryOrNull}
-use Rattle.decimal_maps.specs.declared.from_tokens.Stop.TheVariants.{Unread}
+use Rattle.json_parts.specs.declared.stop.Stop.TheVariants.{Unread}
 use Rattle.decimal_faults.specs.Geometries.{geometry_faults}
 use Rattle.decimal_faults.specs.Parts.{option_faults, unless_null}
 use Rattle.decimal_faults.proofs.Nested.{type_is}

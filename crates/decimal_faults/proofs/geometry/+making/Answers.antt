@@ -1,7 +1,7 @@
 use Rattle.std.proofs.Common.{◌≡◌, ◌<◌, ◌≤◌, Err, Ok, sym, ap, ◌∙◌, rules}
 use Rattle.json.specs.Tree.{depth, items_depth}
 use Rattle.json.specs.Value.{value_view, items_view}
-use Rattle.decimal_maps.specs.declared.from_tokens.Stop.TheVariants.{Unread}
+use Rattle.json_parts.specs.declared.stop.Stop.TheVariants.{Unread}
 use Rattle.decimal_faults.specs.Geometries.{geometries_faults}
 use Rattle.decimal_faults.proofs.Faulty.{faulty_member}
 use Rattle.decimal_faults.proofs.Nested.{array_depth, faulty_collection, faulty_list, faulty_type, get_depth, item_depth, no_list_faulty, shaped_all, shaped_more, shaped_not}

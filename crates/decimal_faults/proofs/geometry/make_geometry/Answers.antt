@@ -1,6 +1,6 @@
 use Rattle.std.proofs.Common.{◌≡◌, Err, Ok, sym, ap, ◌∙◌}
 use Rattle.json.specs.Value.{value_view}
-use Rattle.decimal_maps.specs.declared.from_tokens.Stop.TheVariants.{Unread}
+use Rattle.json_parts.specs.declared.stop.Stop.TheVariants.{Unread}
 use Rattle.decimal_faults.proofs.Nested.{faulty_collection, faulty_type}
 use Rattle.decimal_faults.proofs.geometry.make_geometry.Goals as goal
 

@@ -2,7 +2,7 @@ use Rattle.std.proofs.Common.{◌≡◌, ◌∷◌, None, false, sym, subst, ari
 use Rattle.json.specs.Token.{number}
 use Rattle.json.specs.Json as json
 use Rattle.json.specs.Json.{after_end_array}
-use Rattle.decimal_maps.proofs.Looping.{number_gives, gives_shorter}
+use Rattle.json_parts.proofs.Looping.{number_gives, gives_shorter}
 use Rattle.decimal_maps.proofs.Placing.{PassedHeights, heights_none, heights_more, heights_all}
 use Rattle.decimal_maps.proofs.position.drop_heights.Goals as goal
 

@@ -4,7 +4,7 @@ use Rattle.json.specs.Value.{value_view}
 use Rattle.attributes.specs.Attributes.{seen_member}
 use Rattle.attributes.specs.Refusals.{attributes_faults}
 use Rattle.reading.proofs.Faultless.{first_none, second_none}
-use Rattle.decimal_maps.specs.declared.from_tokens.Stop.TheVariants.{Unread}
+use Rattle.json_parts.specs.declared.stop.Stop.TheVariants.{Unread}
 use Rattle.decimal_topologies.specs.Geometries.{content_faults, parts_of}
 use Rattle.decimal_topologies.proofs.feature.make_feature.Goals as goal
 

@@ -3,7 +3,7 @@ use Rattle.std.proofs.Common.{◌≡◌, ◌<◌, ◌≤◌, Err, Ok, Some, sym,
 use Rattle.json.specs.Tree.{depth, items_depth}
 use Rattle.json.specs.Value.{value_view, items_view}
 use Rattle.decimal_faults.specs.declared.geometry.GeometryForm.TheVariants.{Simple, Collection}
-use Rattle.decimal_maps.specs.declared.from_tokens.Stop.TheVariants.{Unread}
+use Rattle.json_parts.specs.declared.stop.Stop.TheVariants.{Unread}
 use Rattle.decimal_faults.proofs.Faulty.{faulty_member}
 use Rattle.decimal_faults.proofs.Nested.{array_depth, get_depth, item_depth}
 use Rattle.decimal_topologies.specs.Geometries.{form_of, geometries_faults, parts_of}

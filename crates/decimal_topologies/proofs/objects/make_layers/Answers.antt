@@ -1,7 +1,7 @@
 use Rattle.std.proofs.Common.{◌≡◌, Err, ap}
 use Rattle.std.proofs.lemmas.Map.Iter.{rest_all, rest_more}
 use Rattle.std.specs.Map.Iter.{deref_pair}
-use Rattle.decimal_maps.specs.declared.from_tokens.Stop.TheVariants.{Unread}
+use Rattle.json_parts.specs.declared.stop.Stop.TheVariants.{Unread}
 use Rattle.decimal_topologies.specs.Geometries.{parts_of}
 use Rattle.decimal_topologies.proofs.Layered.{faulty_here, made_all, made_more}
 use Rattle.decimal_topologies.proofs.objects.make_layers.Goals as goal

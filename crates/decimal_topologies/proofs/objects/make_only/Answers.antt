@@ -1,7 +1,7 @@
 use Rattle.std.proofs.Common.{◌≡◌, ◌∙◌, Err, ap, option_map, sym}
 use Rattle.std.proofs.lemmas.Result.{IfOk-weaker}
 use Rattle.json.specs.Value.{value_view}
-use Rattle.decimal_maps.specs.declared.from_tokens.Stop.TheVariants.{Unread}
+use Rattle.json_parts.specs.declared.stop.Stop.TheVariants.{Unread}
 use Rattle.decimal_topologies.specs.Geometries.{parts_of}
 use Rattle.decimal_topologies.proofs.Layered.{faulty_only}
 use Rattle.decimal_topologies.proofs.objects.make_only.Goals as goal

@@ -1,7 +1,7 @@
 use Rattle.std.proofs.Common.{◌≡◌, ◌≢◌, ◌∙◌, Err, [], ap, codes, subst}
 use Rattle.json.specs.Value.{value_view, items_view}
 use Rattle.decimal_faults.specs.Parts.{member_faults}
-use Rattle.decimal_maps.specs.declared.from_tokens.Stop.TheVariants.{Unread}
+use Rattle.json_parts.specs.declared.stop.Stop.TheVariants.{Unread}
 use Rattle.decimal_arcs.specs.Arcs.{arcs_of}
 use Rattle.decimal_topologies.specs.Layers.{chosen_faults}
 use Rattle.decimal_topologies.specs.Roots.{chosen, used_in}

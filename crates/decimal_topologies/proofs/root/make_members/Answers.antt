@@ -1,6 +1,6 @@
 use Rattle.std.proofs.Common.{◌≡◌, ◌≢◌, ◌∙◌, Err, [], ap, option_map, subst, sym}
 use Rattle.json.specs.Value.{value_view, items_view}
-use Rattle.decimal_maps.specs.declared.from_tokens.Stop.TheVariants.{Unread}
+use Rattle.json_parts.specs.declared.stop.Stop.TheVariants.{Unread}
 use Rattle.decimal_topologies.specs.Roots.{content_faults}
 use Rattle.decimal_topologies.proofs.Rooted.{faulty_array, faulty_content, faulty_transform}
 use Rattle.decimal_topologies.proofs.root.make_members.Goals as goal

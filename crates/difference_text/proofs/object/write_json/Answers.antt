@@ -1,4 +1,4 @@
-use Rattle.shapes.proofs.WritingLemmas.Same.{part_as, whole_as}
+use Rattle.sinks.proofs.Same.{part_as, whole_as}
 use Rattle.difference_text.proofs.DifferenceWriting.{json_text_is}
 use Rattle.difference_text.proofs.object.write_json.Goals as goal
 

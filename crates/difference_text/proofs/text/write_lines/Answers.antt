@@ -1,4 +1,4 @@
-use Rattle.shapes.proofs.WritingLemmas.Same.{part_as, whole_as}
+use Rattle.sinks.proofs.Same.{part_as, whole_as}
 use Rattle.difference_text.proofs.DifferenceWriting.{difference_lines_is}
 use Rattle.difference_text.proofs.text.write_lines.Goals as goal
 

@@ -3,7 +3,7 @@ use Rattle.std.proofs.lemmas.Result.{on_ok_weaker, on_err_weaker}
 use Rattle.sinks.specs.Writes.{TookAll}
 use Rattle.sinks.proofs.Stops.{failed_in}
 use Rattle.shapes.specs.declared.feature.Feature.{Feature}
-use Rattle.shapes.proofs.WritingLemmas.Joined.{joined_map}
+use Rattle.sinks.proofs.Joined.{joined_map}
 use Rattle.geojson_io.specs.CollectionText.{feature_text}
 use Rattle.geojson_io.proofs.Collections.{collection_is}
 use Rattle.geojson_io.proofs.writer.write.Goals as goal

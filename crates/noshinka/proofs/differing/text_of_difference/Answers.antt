@@ -1,7 +1,7 @@
 use Rattle.std.proofs.Common.{ap, refl, subst, sym}
 use Rattle.std.specs.Option.{option_copied}
 use Rattle.difference_text.specs.DifferenceJson.{IsDifferenceText}
-use Rattle.topo_io.proofs.SinkLemmas.{appended}
+use Rattle.sinks.proofs.Writes.{appended}
 use Rattle.noshinka.proofs.Differences.{layer_says, no_layer}
 use Rattle.noshinka.proofs.differing.text_of_difference.Goals as goal
 

@@ -1,5 +1,5 @@
 use Rattle.std.proofs.Common.{ap}
-use Rattle.topo_io.proofs.SinkLemmas.{appended}
+use Rattle.sinks.proofs.Writes.{appended}
 use Rattle.noshinka.proofs.Texts.{layer_kept}
 use Rattle.noshinka.proofs.questions.text_of_layer.Goals as goal
 

@@ -12,7 +12,7 @@ returns-then-form-eq0-clause-text c = record {
   layer = inl c.if-form-eq0.true;
   lists = map (λ l. l.items) c.in_ok-lists.lists.items;
   neighbors = c.in_ok-lists.ensures.neighbors;
-  is = c.in_ok-text_of_lists.ensures ∙ ap (λ l. neighbors_text (map (λ x. x.items) l)) c.as_slice.ensures.value ∙ by_places c.args.form [] _ c.if-form-eq0.true;
+  is = c.in_ok-to_bytes.ensures ∙ ap (λ l. neighbors_text (map (λ x. x.items) l)) c.as_slice.ensures.value ∙ by_places c.args.form [] _ c.if-form-eq0.true;
 }
 
 pub returns-clause-text : goal.returns-clause-text

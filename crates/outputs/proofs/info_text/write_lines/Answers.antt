@@ -1,4 +1,4 @@
-use Rattle.shapes.proofs.WritingLemmas.Same.{part_as, whole_as}
+use Rattle.sinks.proofs.Same.{part_as, whole_as}
 use Rattle.outputs.proofs.InfoTextLemmas.{lines_is}
 use Rattle.outputs.proofs.info_text.write_lines.Goals as goal
 

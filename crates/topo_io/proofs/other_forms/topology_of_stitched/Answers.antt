@@ -2,9 +2,9 @@ use Rattle.std.proofs.Common.{IfSome, sym, subst}
 use Rattle.normalize.specs.Repeats.{AreWithoutRepeats}
 use Rattle.validate.specs.Accept.Laws.{HaveI64}
 use Rattle.topo_io.specs.Means.{IsTopologyOver}
-use Rattle.topo_io.specs.Parts.{layer_of_geoms}
+use Rattle.topo_text.specs.Parts.{layer_of_geoms}
 use Rattle.topo_io.specs.Stitching.{LayerStitches}
-use Rattle.topo_io.proofs.Each.{all_mapped}
+use Rattle.topo_text.proofs.Each.{all_mapped}
 use Rattle.topo_io.proofs.Repeats.{ok_some, without_ids, without_over}
 use Rattle.topo_io.proofs.other_forms.topology_of_stitched.Goals as goal
 

@@ -1,7 +1,7 @@
 use Rattle.std.proofs.Common.{ℕ, List, IfSome, subst, sym}
 use Rattle.grid.specs.Place.{Transform}
 use Rattle.topo_io.specs.Means.{Means}
-use Rattle.topo_io.specs.Parts.{AreSaid}
+use Rattle.topo_text.specs.Parts.{AreSaid}
 use Rattle.topo_io.proofs.topology.build_topology.Goals as goal
 
 pub returns-in_ok-build_owned-in-Some-clause-means : goal.returns-in_ok-build_owned-in-Some-clause-means

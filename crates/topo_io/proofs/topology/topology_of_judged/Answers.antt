@@ -2,9 +2,9 @@ use Rattle.std.proofs.Common.{IfSome, ◌∙◌, subst, sym}
 use Rattle.std.specs.List.{AllByRecursion}
 use Rattle.validate.specs.Accept.Laws.{HaveI64}
 use Rattle.topo_io.specs.Means.{IsTopologyOver}
-use Rattle.topo_io.specs.Parts.{layer_of_geoms}
+use Rattle.topo_text.specs.Parts.{layer_of_geoms}
 use Rattle.topo_io.specs.Stitching.{LayerStitches}
-use Rattle.topo_io.proofs.Each.{all_mapped}
+use Rattle.topo_text.proofs.Each.{all_mapped}
 use Rattle.topo_io.proofs.Features.{said_refused}
 use Rattle.topo_io.proofs.Stitched.{over_means}
 use Rattle.topo_io.proofs.topology.topology_of_judged.Goals as goal

@@ -1,6 +1,6 @@
 use Rattle.std.proofs.Common.{◌≡◌, length, vec_len, ap, ◌∙◌, arith}
 use Rattle.serde_json.specs.View.{view}
-use Rattle.topo_io.specs.Arcs.{counted}
+use Rattle.topo_text.specs.Arcs.{counted}
 use Rattle.topo_io.proofs.AllFaults.{arcs_counted}
 use Rattle.topo_io.proofs.validity.count_of_arcs.Goals as goal
 

@@ -2,9 +2,10 @@ use Rattle.std.proofs.Common.{◌≡◌, false, vec_len, codes, arith}
 use Rattle.serde_json.specs.View.{view}
 use Rattle.reading.specs.FaultLists.Found.{is_full, pairs_of}
 use Rattle.reading.specs.Parts.{list_faults, member_faults}
-use Rattle.topo_io.specs.Arcs.{arc_faults}
+use Rattle.topo_text.specs.Arcs.{arc_faults}
 use Rattle.topo_io.specs.Named.{named}
-use Rattle.topo_io.proofs.AllFaults.{content_more, empty_some, some_there}
+use Rattle.topo_io.proofs.AllFaults.{content_more}
+use Rattle.topo_text.proofs.Found.{empty_some, some_there}
 use Rattle.topo_io.proofs.validity.judge_content.Goals as goal
 
 pub returns : goal.returns

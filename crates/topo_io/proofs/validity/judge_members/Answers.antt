@@ -2,7 +2,7 @@ use Rattle.std.proofs.Common.{subst}
 use Rattle.serde_json.specs.View.{view}
 use Rattle.reading.specs.FaultLists.Found.{AreFound, pairs_of}
 use Rattle.reading.proofs.Results.{ok_map}
-use Rattle.topo_io.specs.Roots.{transformed_faults}
+use Rattle.topo_text.specs.Roots.{transformed_faults}
 use Rattle.topo_io.proofs.AllFaults.{no_transform}
 use Rattle.topo_io.proofs.validity.judge_members.Goals as goal
 

@@ -2,7 +2,7 @@ use Rattle.std.proofs.Common.{sym, ◌∙◌, subst}
 use Rattle.serde_json.specs.View.{view}
 use Rattle.reading.specs.FaultLists.Found.{AreFound, pairs_of}
 use Rattle.reading.proofs.Results.{ok_map}
-use Rattle.topo_io.proofs.Roots.{content_over}
+use Rattle.topo_text.proofs.Roots.{content_over}
 use Rattle.topo_io.proofs.validity.judge_on_arcs.Goals as goal
 
 pub returns-in-Ok : goal.returns-in-Ok

@@ -1,6 +1,6 @@
 use Rattle.serde_json.specs.View.{view}
 use Rattle.reading.proofs.Results.{err_map, on_ok_map}
-use Rattle.topo_io.specs.Roots.{topology_faults}
+use Rattle.topo_text.specs.Roots.{topology_faults}
 use Rattle.topo_io.proofs.AllFaults.{first_least, first_none}
 use Rattle.topo_io.proofs.validity.judge_root.Goals as goal
 

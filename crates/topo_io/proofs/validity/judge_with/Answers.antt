@@ -1,7 +1,7 @@
 use Rattle.std.proofs.Common.{◌≡◌, true, false, sym, subst}
 use Rattle.serde_json.specs.View.{view}
 use Rattle.reading.specs.FaultLists.Found.{AreFound, is_full, pairs_of}
-use Rattle.topo_io.specs.Roots.{transform_faults}
+use Rattle.topo_text.specs.Roots.{transform_faults}
 use Rattle.topo_io.proofs.AllFaults.{transformed_enough, transformed_more}
 use Rattle.topo_io.proofs.validity.judge_with.Goals as goal
 

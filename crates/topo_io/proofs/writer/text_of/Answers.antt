@@ -1,6 +1,6 @@
-use Rattle.std.proofs.Common.{ap}
-use Rattle.topo_io.proofs.SinkLemmas.{appended}
+use Rattle.std.proofs.Common.{subst}
+use Rattle.grid.specs.Place.{IsTransform}
 use Rattle.topo_io.proofs.writer.text_of.Goals as goal
 
-pub returns-in-Ok-clause-text : goal.returns-in-Ok-clause-text
-returns-in-Ok-clause-text c = appended _ _ _ _ (ap (λ s. s.bytes) c.new-kept.ensures) c.into_bytes.ensures c.in-Ok.ensures.whole.bytes
+pub returns-clause-limits : goal.returns-clause-limits
+returns-clause-limits c = subst IsTransform c.grid.ensures c.scale.ensures.limits

@@ -10,13 +10,13 @@ loop-arc-init g c =
 
 pub loop-arc-preserved : goal.loop-arc-preserved
 loop-arc-preserved g c =
-    text_more arc_text c.args.self.now.0.now.arcs c.loop-arc.separator.0.now c.loop-arc.arc-iterator c.next.new.self c.in-Some.arc.now c.in-Some.ensures.steps
+    text_more arc_text c.args.self.now.0.now.arcs c.loop-arc.separator.now c.loop-arc.arc-iterator c.next.new.self c.in-Some.arc.now c.in-Some.ensures.steps
     c.loop-arc.invariant c.in-Ok.ensures.whole
 
 pub returns-in-Err-clause-part : goal.returns-in-Err-clause-part
 returns-in-Err-clause-part g c =
-    text_part arc_text c.args.self.now.0.now.arcs c.loop-arc.separator.0.now c.loop-arc.arc-iterator c.next.new.self c.in-Some.arc.now c.in-Some.ensures.steps
+    text_part arc_text c.args.self.now.0.now.arcs c.loop-arc.separator.now c.loop-arc.arc-iterator c.next.new.self c.in-Some.arc.now c.in-Some.ensures.steps
     c.loop-arc.invariant c.in-Err.ensures.part
 
 pub returns-clause-whole : goal.returns-clause-whole
-returns-clause-whole g c = texts_done arc_text c.args.self.now.0.now.arcs c.loop-arc.separator.0.now c.loop-arc.arc-iterator c.in-None.ensures.steps.0 c.loop-arc.invariant
+returns-clause-whole g c = texts_done arc_text c.args.self.now.0.now.arcs c.loop-arc.separator.now c.loop-arc.arc-iterator c.in-None.ensures.steps.0 c.loop-arc.invariant

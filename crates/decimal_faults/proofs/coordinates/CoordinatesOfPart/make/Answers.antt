@@ -1,7 +1,7 @@
 use Rattle.std.proofs.Common.{◌≡◌, ◌≢◌, [], Err, sym, ap, subst}
 use Rattle.json.specs.Value.{value_view}
 use Rattle.decimal_maps.specs.Geometries.{ArePositions, AreLists, AreGroups}
-use Rattle.decimal_maps.specs.declared.from_tokens.Stop.TheVariants.{Unread}
+use Rattle.json_parts.specs.declared.stop.Stop.TheVariants.{Unread}
 use Rattle.decimal_faults.specs.Geometries.{coordinates_faults}
 use Rattle.decimal_faults.specs.Outlines.{outline_at_faults}
 use Rattle.decimal_faults.specs.Parts.{list_faults}

@@ -6,7 +6,7 @@ use Rattle.reading.specs.declared.geometry.GeometryType.{GeometryType}
 use Rattle.reading.specs.declared.geometry.GeometryType.TheVariants.{MultiLineString, Polygon, MultiPolygon}
 use Rattle.decimal_faults.specs.Parts.{list_faults}
 use Rattle.decimal_faults.specs.declared.outline.Outline.{Outline}
-use Rattle.decimal_maps.specs.declared.from_tokens.Stop.TheVariants.{Unread}
+use Rattle.json_parts.specs.declared.stop.Stop.TheVariants.{Unread}
 use Rattle.decimal_topologies.specs.Geometries.{TopologyParts, body_faults, outline_of, parts_of}
 use Rattle.decimal_topologies.specs.Stitching.{arcs_outline_faults}
 use Rattle.decimal_topologies.proofs.bodies.BodyOfPart.make.Goals as goal

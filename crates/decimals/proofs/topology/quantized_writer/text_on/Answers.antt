@@ -1,6 +1,6 @@
 use Rattle.std.proofs.Common.{◌≡◌, ap}
 use Rattle.decimals.specs.Topology.DecimalTransform.{DecimalTransformParts}
-use Rattle.decimals.proofs.TopologyLemmas.SinkLemmas.{appended}
+use Rattle.sinks.proofs.Writes.{appended}
 use Rattle.decimals.proofs.TopologyLemmas.Whole.{four_pieces}
 use Rattle.decimals.proofs.topology.quantized_writer.text_on.Goals as goal
 

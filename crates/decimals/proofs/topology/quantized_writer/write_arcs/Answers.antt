@@ -10,9 +10,9 @@ loop-arc-init g c =
 
 pub loop-arc-preserved : goal.loop-arc-preserved
 loop-arc-preserved g c =
-    text_more (quantized_arc c.args.quantizer.now) c.args.arcs.now.arcs c.loop-arc.separator.0.now c.loop-arc.arc-iterator c.next.new.self c.in-Some.arc.now
+    text_more (quantized_arc c.args.quantizer.now) c.args.arcs.now.arcs c.loop-arc.separator.now c.loop-arc.arc-iterator c.next.new.self c.in-Some.arc.now
     c.in-Some.ensures.steps c.loop-arc.invariant (rw (c.as_slice.ensures.value, c.in_ok-numbers.ensures) at c.in_ok-write.ensures.whole)
 
 pub returns-clause-text : goal.returns-clause-text
 returns-clause-text g c =
-    texts_done (quantized_arc c.args.quantizer.now) c.args.arcs.now.arcs c.loop-arc.separator.0.now c.loop-arc.arc-iterator c.in-None.ensures.steps.0 c.loop-arc.invariant
+    texts_done (quantized_arc c.args.quantizer.now) c.args.arcs.now.arcs c.loop-arc.separator.now c.loop-arc.arc-iterator c.in-None.ensures.steps.0 c.loop-arc.invariant

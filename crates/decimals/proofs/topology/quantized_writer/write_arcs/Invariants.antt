@@ -6,4 +6,4 @@ use Rattle.decimals.proofs.topology.quantized_writer.write_arcs.Given as goal
 
 abbrev pub invariant-loop-arc : goal.invariant-loop-arc
 invariant-loop-arc g l =
-    TookUpTo (g.W.Sink.seen l.initial.out) (g.W.Sink.seen l.out) (joined (quantized_arc l.quantizer) l.arcs.arcs) (behind (quantized_arc l.quantizer) l.separator.0.now l.arc-iterator)
+    TookUpTo (g.W.Sink.seen l.initial.out) (g.W.Sink.seen l.out) (joined (quantized_arc l.quantizer) l.arcs.arcs) (behind (quantized_arc l.quantizer) l.separator.now l.arc-iterator)

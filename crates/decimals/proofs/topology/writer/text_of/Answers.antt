@@ -1,5 +1,5 @@
 use Rattle.std.proofs.Common.{ap}
-use Rattle.decimals.proofs.TopologyLemmas.SinkLemmas.{appended}
+use Rattle.sinks.proofs.Writes.{appended}
 use Rattle.decimals.proofs.TopologyLemmas.Whole.{four_pieces}
 use Rattle.decimals.proofs.topology.writer.text_of.Goals as goal
 

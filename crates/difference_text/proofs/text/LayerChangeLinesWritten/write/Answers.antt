@@ -1,4 +1,4 @@
-use Rattle.shapes.proofs.WritingLemmas.Same.{part_as, whole_as}
+use Rattle.sinks.proofs.Same.{part_as, whole_as}
 use Rattle.difference_text.specs.DifferenceParts.{report_of}
 use Rattle.difference_text.proofs.DifferenceWriting.{layer_lines_is}
 use Rattle.difference_text.proofs.text.LayerChangeLinesWritten.write.Goals as goal

@@ -12,5 +12,5 @@ pub loop-lists-preserved : goal.loop-lists-preserved
 loop-lists-preserved c =
     let l = c.loop-lists in
     let lists = c.in-Some.lists in
-    let made = subst (AllZip (OutlineOf (ring_fault position_cmp) vertices_of ring_of) lists.items) (sym c.from_vec.ensures) c.in_ok-rings.ensures in
-    zip_more (λ g rs. AllZip (OutlineOf (ring_fault position_cmp) vertices_of ring_of) g.items rs) l.yielded l.found.items c.push.new.self.items lists c.from_vec.result c.in-Ok.ensures.items l.invariant made
+    let made = subst (AllZip (OutlineOf (ring_fault position_cmp) vertices_of ring_of) lists) (sym c.from_vec.ensures) c.in_ok-rings.ensures in
+    zip_more (λ g rs. AllZip (OutlineOf (ring_fault position_cmp) vertices_of ring_of) g rs) l.yielded l.found.items c.push.new.self.items lists c.from_vec.result c.in-Ok.ensures.items l.invariant made

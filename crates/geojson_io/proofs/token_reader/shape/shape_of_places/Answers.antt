@@ -11,7 +11,7 @@ use Rattle.geojson_io.proofs.TokenShapes.{one_outline}
 use Rattle.geojson_io.proofs.token_reader.shape.shape_of_places.Goals as goal
 
 pub returns-in-MultiPoint : goal.returns-in-MultiPoint
-returns-in-MultiPoint c t d none places = rw c.in-MultiPoint.is (none, ap points (c.from_vec.ensures ∙ zip_is (position_of t) (elements d) c.args.places.items places))
+returns-in-MultiPoint c t d none places = rw c.in-MultiPoint.is (none, ap points (zip_is (position_of t) (elements d) c.args.places places))
 
 pub returns-in_ok-outline_of-in-LineString : goal.returns-in_ok-outline_of-in-LineString
 returns-in_ok-outline_of-in-LineString c t d none places =

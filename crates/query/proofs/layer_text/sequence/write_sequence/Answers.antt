@@ -15,7 +15,7 @@ returns-in_default-clause-no_layer g c = λ m is. (
 
 pub returns-in-Ok-clause-whole : goal.returns-in-Ok-clause-whole
 returns-in-Ok-clause-whole g c = λ m is.
-    let P : List ℕ → Type 0 = λ l. TookAll (g.W.Sink.seen c.args.sink.now) (g.W.Sink.seen c.write_lines.new.sink) l in
+    let P : List ℕ → Type 0 = λ l. TookAll (g.W.Sink.seen c.args.sink.now) (g.W.Sink.seen c.write.new.sink) l in
     subst P (layer_lines_are m c.args.topology.now c.args.layer.now c.in-Some.geometries.now is c.in-Some.ensures.found).1 c.in-Ok.ensures.whole
 
 pub returns-in-Ok-clause-no_layer : goal.returns-in-Ok-clause-no_layer
@@ -26,7 +26,7 @@ returns-in-Ok-clause-no_layer g c = λ m is. (
 
 pub returns-in-Err-Write-clause-part : goal.returns-in-Err-Write-clause-part
 returns-in-Err-Write-clause-part g c = λ e m is.
-    let P : List ℕ → Type 0 = λ l. TookPart (g.W.Sink.seen c.args.sink.now) (g.W.Sink.seen c.write_lines.new.sink) l in
+    let P : List ℕ → Type 0 = λ l. TookPart (g.W.Sink.seen c.args.sink.now) (g.W.Sink.seen c.write.new.sink) l in
     subst P (layer_lines_are m c.args.topology.now c.args.layer.now c.in-Some.geometries.now is c.in-Some.ensures.found).1 c.in-Err-Write.ensures.part
 
 pub returns-in-Err-Write-clause-no_layer : goal.returns-in-Err-Write-clause-no_layer

@@ -10,14 +10,14 @@ loop-line-init g c =
 
 pub loop-line-preserved : goal.loop-line-preserved
 loop-line-preserved g c =
-    text_more (line_text c.args.self.now.1.now) c.args.self.now.0.now.arcs c.loop-line.separator.0.now c.loop-line.line-iterator c.next.new.self c.in-Some.line.now
+    text_more (line_text c.args.self.now.1.now) c.args.self.now.0.now.arcs c.loop-line.separator.now c.loop-line.line-iterator c.next.new.self c.in-Some.line.now
     c.in-Some.ensures.steps c.loop-line.invariant c.in-Ok.ensures.whole
 
 pub returns-in-Err-clause-part : goal.returns-in-Err-clause-part
 returns-in-Err-clause-part g c =
-    text_part (line_text c.args.self.now.1.now) c.args.self.now.0.now.arcs c.loop-line.separator.0.now c.loop-line.line-iterator c.next.new.self c.in-Some.line.now
+    text_part (line_text c.args.self.now.1.now) c.args.self.now.0.now.arcs c.loop-line.separator.now c.loop-line.line-iterator c.next.new.self c.in-Some.line.now
     c.in-Some.ensures.steps c.loop-line.invariant c.in-Err.ensures.part
 
 pub returns-clause-whole : goal.returns-clause-whole
 returns-clause-whole g c =
-    texts_done (line_text c.args.self.now.1.now) c.args.self.now.0.now.arcs c.loop-line.separator.0.now c.loop-line.line-iterator c.in-None.ensures.steps.0 c.loop-line.invariant
+    texts_done (line_text c.args.self.now.1.now) c.args.self.now.0.now.arcs c.loop-line.separator.now c.loop-line.line-iterator c.in-None.ensures.steps.0 c.loop-line.invariant

@@ -1,7 +1,7 @@
-use Rattle.std.proofs.Common.{ℕ, List, ◌∙◌, subst}
+use Rattle.std.proofs.Common.{◌∙◌, ℕ, List, IsTrue, codes, refl, subst, sym}
+use Rattle.std.proofs.lemmas.Slice.Eq.{bytes_eq-Decides}
 use Rattle.std.specs.Result.{OnOk}
 use Rattle.sinks.specs.Writes.{TookAll}
-use Rattle.shapes.specs.Parts.{properties_text}
 use Rattle.shapes.proofs.WritingLemmas.Properties.{properties_are}
 use Rattle.shapes.proofs.writing.PropertiesMemberWritten.write.Goals as goal
 
@@ -9,5 +9,5 @@ pub returns-clause-whole : goal.returns-clause-whole
 returns-clause-whole g c =
     let P : List ℕ → Type 0 = λ l. OnOk c.write.result (TookAll (g.W.Sink.seen c.args.sink.now) (g.W.Sink.seen c.write.new.sink) l) in
     subst P
-    (properties_are c.as_bytes.result.now (properties_text c.args.self.now.0.now) c.is_empty.result c.if-is_empty.false c.is_empty.ensures.1 (c.as_bytes.ensures.value ∙ c.text.ensures))
+    (properties_are c.args.self.now.0.now c.args.self.now.0.now c.eq.result c.if-eq.false (λ none. subst IsTrue (sym (c.eq.ensures ∙ (bytes_eq-Decides c.args.self.now.0.now (codes "{}")).1 none)) cc) refl)
     c.write.ensures.whole

@@ -3,9 +3,9 @@ use Rattle.serde_json.specs.View.{view}
 use Rattle.reading.specs.FaultLists.Found.{AreFound, is_full, pairs_of}
 use Rattle.reading.specs.Info.{info_faults}
 use Rattle.reading.proofs.FaultListsLemmas.Kept.{found_more}
-use Rattle.topo_io.specs.Geometries.{shape_faults, typed_faults_of}
+use Rattle.topo_text.specs.Geometries.{shape_faults, typed_faults_of}
 use Rattle.topo_io.specs.Named.{named}
-use Rattle.topo_io.proofs.AllFaults.{pairs_join}
+use Rattle.topo_text.proofs.Found.{pairs_join}
 use Rattle.topo_io.proofs.validity.geometry.judge_as.Goals as goal
 
 pub returns : goal.returns

@@ -1,6 +1,6 @@
 use Rattle.std.proofs.Common.{map}
 use Rattle.reading.specs.FaultLists.Found.{pairs_of}
-use Rattle.topo_io.specs.Arcs.{along, stitched}
+use Rattle.topo_text.specs.Arcs.{along, stitched}
 use Rattle.topo_io.specs.Validity.{used_faults}
 use Rattle.topo_io.proofs.AllFaults.{faultless_means, stitched_says}
 use Rattle.topo_io.proofs.validity.list.judge_outline.Goals as goal

@@ -1,6 +1,6 @@
 use Rattle.std.proofs.Common.{◌↔◌, drop}
 use Rattle.std.specs.List.{AllByRecursion}
-use Rattle.topo_io.specs.Parts.{plain_geom}
+use Rattle.topo_text.specs.Parts.{plain_geom}
 use Rattle.topo_io.specs.Stitching.{GeomStitches}
 use Rattle.topo_io.proofs.validity.parts.geometries_stitch.Given as goal
 

@@ -1,5 +1,5 @@
 use Rattle.std.proofs.Common.{subst, sym}
-use Rattle.topo_io.specs.Parts.{layer_of_geoms}
+use Rattle.topo_text.specs.Parts.{layer_of_geoms}
 use Rattle.topo_io.specs.Stitching.{LayerStitches}
 use Rattle.topo_io.proofs.JudgedLists.{item_holds, item_refused, layer_judged}
 use Rattle.topo_io.proofs.validity.parts.layers_stitch.Goals as goal

@@ -1,6 +1,6 @@
 use Rattle.std.proofs.Common.{◌↔◌, drop}
 use Rattle.std.specs.List.{AllByRecursion}
-use Rattle.topo_io.specs.Parts.{layer_of_geoms}
+use Rattle.topo_text.specs.Parts.{layer_of_geoms}
 use Rattle.topo_io.specs.Stitching.{LayerStitches}
 use Rattle.topo_io.proofs.validity.parts.layers_stitch.Given as goal
 

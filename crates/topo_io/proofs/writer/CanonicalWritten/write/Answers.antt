@@ -1,7 +1,7 @@
 use Rattle.std.proofs.Common.{subst}
 use Rattle.grid.specs.Place.{IsTransform}
 use Rattle.topo_io.proofs.Parts.{topology_is}
-use Rattle.shapes.proofs.WritingLemmas.Same.{whole_as, part_as}
+use Rattle.sinks.proofs.Same.{whole_as, part_as}
 use Rattle.topo_io.proofs.writer.CanonicalWritten.write.Goals as goal
 
 pub returns-clause-whole : goal.returns-clause-whole

@@ -1,13 +1,13 @@
 use Rattle.topo_io.proofs.Parts.{layer_is}
-use Rattle.shapes.proofs.WritingLemmas.Same.{whole_as, part_as}
+use Rattle.sinks.proofs.Same.{whole_as, part_as}
 use Rattle.topo_io.proofs.writer.LayersNotationLayer.write_value.Goals as goal
 
 pub returns-clause-whole : goal.returns-clause-whole
 returns-clause-whole g c =
     whole_as c.write.result (g.W.Sink.seen c.args.sink.now) (g.W.Sink.seen c.write.new.sink) _ _
-    (layer_is c.args.value.now c.as_bytes.ensures.value c.spelling.ensures c.name.ensures c.geometries.ensures) c.write.ensures.whole
+    (layer_is c.args.value.now c.name.ensures c.geometries.ensures) c.write.ensures.whole
 
 pub returns-clause-part : goal.returns-clause-part
 returns-clause-part g c =
     part_as c.write.result (g.W.Sink.seen c.args.sink.now) (g.W.Sink.seen c.write.new.sink) _ _
-    (layer_is c.args.value.now c.as_bytes.ensures.value c.spelling.ensures c.name.ensures c.geometries.ensures) c.write.ensures.part
+    (layer_is c.args.value.now c.name.ensures c.geometries.ensures) c.write.ensures.part

@@ -1,6 +1,7 @@
 use Rattle.std.proofs.Common.{◌≡◌, ◌<◌, ◌∷◌, Ok, ap, ◌∙◌, sym, subst, arith}
 use Rattle.json.specs.Token.{Token, begin_array}
 use Rattle.grid.specs.Computed.{axis_number}
+use Rattle.reading.proofs.Converted.{reads_tree}
 use Rattle.reading.proofs.Positions.{number_reads}
 use Rattle.geojson_io.specs.Positions.{position_faults, position_of}
 use Rattle.reading.specs.Tokens.Reads.{Reads}
@@ -26,4 +27,4 @@ returns-in-Some c =
     let all = ap (λ ts. begin_array ∷ Token.number s ∷ ts) tail in
     let read = position_reads g c.args.depth s t first.0 second.0 x y new q some first.1 first.2 xa second.1 second.2 yb c.in_ok-x.ensures.inside c.in_ok-y-2.ensures.inside
     (given.0 ∙ number_reads x c.in_ok-x.ensures.inside) (given.1 ∙ number_reads y c.in_ok-y-2.ensures.inside) in
-    subst (λ ts. Reads (position_faults g) (λ d p. p ≡ position_of g d) c.args.depth ts new q) (sym all) read
+    reads_tree (position_faults g) (λ d p. p ≡ position_of g d) c.args.depth (begin_array ∷ Token.number s ∷ c.args.reader.now) new q (subst (λ ts. Reads (position_faults g) (λ d p. p ≡ position_of g d) c.args.depth ts new q) (sym all) read)

@@ -1,14 +1,15 @@
 use Rattle.std.proofs.Common.{◌≡◌, ◌∷◌, Ok, ap, ◌∙◌, sym, subst}
 use Rattle.json.specs.Token.{Token, begin_array}
 use Rattle.grid.specs.Computed.{axis_number}
+use Rattle.reading.proofs.Converted.{reads_tree}
 use Rattle.reading.proofs.Positions.{number_reads}
 use Rattle.geojson_io.specs.Positions.{position_faults, position_of}
 use Rattle.reading.specs.Tokens.Reads.{Reads}
 use Rattle.geojson_io.proofs.TokenPositions.{position_reads}
 use Rattle.geojson_io.proofs.token_reader.position.PositionFromTokens.read.Goals as goal
 
-pub returns-in-Some-clause-read : goal.returns-in-Some-clause-read
-returns-in-Some-clause-read c =
+pub returns-in-Some : goal.returns-in-Some
+returns-in-Some c =
     let g = c.args.self.now.grid in
     let s = c.in_ok-x.x.now in
     let t = c.in_ok-y.y.now in
@@ -25,4 +26,4 @@ returns-in-Some-clause-read c =
     let all = c.in_ok-take_begin_array.ensures.opens ∙ ap (λ ts. begin_array ∷ ts) (c.in_ok-x.ensures ∙ ap (λ ts. Token.number s ∷ ts) tail) in
     let read = position_reads g c.args.depth s t first.0 second.0 x y new q c.in_ok-take_begin_array.ensures.nests first.1 first.2 xa second.1 second.2 yb c.in_ok-x-2.ensures.inside c.in_ok-y-2.ensures.inside
     (given.0 ∙ number_reads x c.in_ok-x-2.ensures.inside) (given.1 ∙ number_reads y c.in_ok-y-2.ensures.inside) in
-    subst (λ ts. Reads (position_faults g) (λ d p. p ≡ position_of g d) c.args.depth ts new q) (sym all) read
+    reads_tree (position_faults g) (λ d p. p ≡ position_of g d) c.args.depth c.args.reader.now new q (subst (λ ts. Reads (position_faults g) (λ d p. p ≡ position_of g d) c.args.depth ts new q) (sym all) read)

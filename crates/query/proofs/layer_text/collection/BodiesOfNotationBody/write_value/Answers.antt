@@ -1,7 +1,7 @@
 use Rattle.std.proofs.Common.{ap}
 use Rattle.geojson_io.specs.CollectionText.{place_text, form_text}
 use Rattle.query.specs.ByArcs.{line_along, ring_along}
-use Rattle.shapes.proofs.WritingLemmas.Same.{whole_as, part_as}
+use Rattle.sinks.proofs.Same.{whole_as, part_as}
 use Rattle.query.proofs.layer_text.collection.BodiesOfNotationBody.write_value.Goals as goal
 
 pub returns-clause-whole : goal.returns-clause-whole

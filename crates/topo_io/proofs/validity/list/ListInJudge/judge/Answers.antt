@@ -2,10 +2,11 @@ use Rattle.std.proofs.Common.{vec_len, arith}
 use Rattle.serde_json.specs.View.{view}
 use Rattle.reading.specs.FaultLists.Found.{pairs_of}
 use Rattle.reading.specs.Parts.{list_faults}
-use Rattle.topo_io.specs.Arcs.{index_faults, stitching_faults}
+use Rattle.topo_text.specs.Arcs.{index_faults, stitching_faults}
 use Rattle.topo_io.specs.Named.{named}
 use Rattle.topo_io.specs.Validity.{faults_as}
-use Rattle.topo_io.proofs.AllFaults.{empty_none, empty_some, list_found, unless_some}
+use Rattle.topo_io.proofs.AllFaults.{list_found}
+use Rattle.topo_text.proofs.Found.{empty_none, empty_some, unless_some}
 use Rattle.topo_io.proofs.validity.list.ListInJudge.judge.Goals as goal
 
 pub returns-then-not-is_empty : goal.returns-then-not-is_empty

@@ -1,0 +1,56 @@
+-- What `check` prints, as it is written.
+use Rattle.std.proofs.Common.{◌≡◌, ◌∙◌, ◌+◌, ℕ, Bool, List, [], ◌∷◌, ◌++◌, None, Option, Some, ap, codes, cond, decimal, is_some, length, map, refl, sym}
+use Rattle.std.specs.Prelude.{nat_lt, not, slice_get, ◌-◌}
+use Rattle.std.specs.Ordering.{is_eq}
+use Rattle.compare.specs.Quality.Ids.{one_if}
+use Rattle.shapes.specs.Order.{id_cmp}
+use Rattle.shapes.specs.Parts.{spelled_text}
+use Rattle.shapes.specs.Spelling.{spelling_of}
+use Rattle.shapes.specs.Writing.Members.{id_value_text}
+use Rattle.shapes.specs.contracts.shape.IdOrd.TheImpl.Laws.{matches_eq-law as id_ties}
+use Rattle.shapes.specs.contracts.shape.IdPartialEq.TheImpl as id_eq
+use Rattle.shapes.specs.declared.shape.Id.{Id}
+use Rattle.shapes.specs.declared.spelled.Spelled.{Spelled}
+use Rattle.sinks.specs.Texts.{each_text, option_text}
+use Rattle.topo.proofs.FeatureOrder.{id_derived_is}
+use Rattle.topo.specs.Parts.{LayerParts}
+use Rattle.topo.specs.declared.geom.Geom.{Geom}
+use Rattle.outputs.specs.CheckText.{feature_or, feature_words, id_at, ids_behind, is_as_before, layer_lines, missing_line, number_front, repeated_lines}
+use Rattle.outputs.specs.declared.check_text.ids.LayerIds.{LayerIds}
+
+-- the derived test of ids is that of their order
+pub same_ids : (a b : Id) (e : Bool) → e ≡ id_eq.eq-value.it a b → e ≡ is_eq (id_cmp a b)
+same_ids a b e is = is ∙ id_ties a b ∙ ap is_eq (id_derived_is a b)
+
+-- the ids of some numbers, of which the first is known
+pub ids_step : (of : ℕ → Option Id) (before : Option Id) (numbers ns : List ℕ) (n : ℕ) {i : Option Id} {b : Bool} → numbers ≡ n ∷ ns → i ≡ of n → b ≡ is_as_before before i →
+    ids_behind of before numbers ≡ one_if (not b) + ids_behind of i ns
+ids_step of before numbers ns n {i} {b} first here same =
+    let told : is_as_before before (of n) ≡ b = ap (is_as_before before) (sym here) ∙ sym same in
+    ap (ids_behind of before) first ∙ (λ j. one_if (not (told j)) + ids_behind of (sym here j) ns)
+
+-- the line of an id that occurs more than once, up to the number of a feature
+pub repeated_step : (l : LayerParts) (before : Option Id) (numbers ns : List ℕ) (n : ℕ) {gs : List Geom} {i : Option Id} {s : Spelled} {b c : Bool} → numbers ≡ n ∷ ns → gs ≡ l.geometries → i ≡ id_at gs n →
+    s ≡ l.name → b ≡ is_as_before before i → c ≡ is_some before →
+    repeated_lines l before numbers
+    ≡ (cond b (codes ", ") (cond c (codes "\n") [] ++ (codes "layer " ++ (spelling_of (spelled_text s) ++ (codes ": id " ++ (option_text id_value_text i ++ codes " more than once: features "))))) ++ decimal n)
+    ++ repeated_lines l i ns
+repeated_step l before numbers ns n {gs} {i} {s} {b} {c} first geometries here name same some =
+    let id : id_at l.geometries n ≡ i = sym (here ∙ ap (λ w. id_at w n) geometries) in
+    let told : is_as_before before (id_at l.geometries n) ≡ b = ap (is_as_before before) id ∙ sym same in
+    ap (repeated_lines l before) first
+    ∙ (λ j. (cond (told j) (codes ", ") (cond (sym some j) (codes "\n") [] ++ (codes "layer " ++ (spelling_of (spelled_text (sym name j)) ++ (codes ": id " ++ (option_text id_value_text (id j) ++ codes " more than once: features "))))) ++ decimal n)
+    ++ repeated_lines l (id j) ns)
+
+-- the lines of the first of some layers, and of the others
+pub layers_step : (ls ms : List LayerParts) (l : LayerParts) (is js : List LayerIds) (i : LayerIds) {missing repeated : List ℕ} → ls ≡ l ∷ ms → is ≡ i ∷ js → missing ≡ i.missing.items →
+    repeated ≡ i.repeated.items → layer_lines ls is ≡ (each_text (missing_line l) missing ++ repeated_lines l None repeated) ++ layer_lines ms js
+layers_step ls ms l is js i {missing} {repeated} first found a b =
+    (λ k. layer_lines (first k) (found k)) ∙ (λ k. (each_text (missing_line l) (sym a k) ++ repeated_lines l None (sym b k)) ++ layer_lines ms js)
+
+-- a feature of the first of some layers, or of the others
+pub feature_here : (ls ms : List LayerParts) (l : LayerParts) (n : ℕ) (g : Geom) → ls ≡ l ∷ ms → slice_get l.geometries n ≡ Some g → feature_words ls n ≡ feature_or l n (Some g) []
+feature_here ls ms l n g first there = ap (λ w. feature_words w n) first ∙ ap (λ o. feature_or l n o (feature_words ms (n - length l.geometries))) there
+
+pub feature_behind : (ls ms : List LayerParts) (l : LayerParts) (n : ℕ) → ls ≡ l ∷ ms → slice_get l.geometries n ≡ None → feature_words ls n ≡ feature_words ms (n - length l.geometries)
+feature_behind ls ms l n first none = ap (λ w. feature_words w n) first ∙ ap (λ o. feature_or l n o (feature_words ms (n - length l.geometries))) none

@@ -1,0 +1,17 @@
+use Rattle.std.proofs.Common.{refl}
+use Rattle.std.specs.Option.{option_copied}
+use Rattle.sinks.proofs.Left.{left_part, left_step}
+use Rattle.outputs.proofs.CheckTextLemmas.{repeated_step}
+use Rattle.outputs.proofs.check_text.ids.RepeatedLinesWritten.write.Goals as goal
+
+pub loop-number-preserved : goal.loop-number-preserved
+loop-number-preserved g c =
+    left_step _ c.loop-number.invariant
+    (repeated_step c.args.self.now.0.now (option_copied c.loop-number.before) _ _ _ c.in-Some.ensures.cases.0 c.geometries.ensures c.id_at-id.ensures c.name.ensures c.is_as_before.ensures c.is_some.ensures)
+    c.in-Ok.ensures.whole
+
+pub returns-in-Err-clause-part : goal.returns-in-Err-clause-part
+returns-in-Err-clause-part g c =
+    left_part _ c.loop-number.invariant
+    (repeated_step c.args.self.now.0.now (option_copied c.loop-number.before) _ _ _ c.in-Some.ensures.cases.0 c.geometries.ensures c.id_at-id.ensures c.name.ensures c.is_as_before.ensures c.is_some.ensures)
+    c.in-Err.ensures.part

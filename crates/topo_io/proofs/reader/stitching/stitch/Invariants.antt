@@ -1,6 +1,0 @@
-use Rattle.std.proofs.Common.{◌≡◌, map, drop}
-use Rattle.topo_io.specs.Arcs.{along, stitched, stitched_onto}
-use Rattle.topo_io.proofs.reader.stitching.stitch.Given as goal
-
-abbrev pub invariant-loop-arc : goal.invariant-loop-arc
-invariant-loop-arc l = stitched (map (along l.arcs) l.used) ≡ stitched_onto l.list.items (map (along l.arcs) (drop l.arc-index l.used))

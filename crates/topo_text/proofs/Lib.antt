@@ -1,0 +1,17 @@
+pub mod Each
+pub mod Found
+pub mod Geometries
+pub mod Indexes
+pub mod Objects
+pub mod Roots
+pub mod Said
+pub mod Steps
+pub mod TokenArcs
+pub mod TokenLater
+pub mod TokenLayers
+pub mod TokenLimits
+pub mod TokenMembers
+pub mod TokenRange
+pub mod TokenRoots
+pub mod Values
+pub mod Within

@@ -1,0 +1,13 @@
+pub mod Limits
+pub mod Arcs
+pub mod Geometries
+pub mod Roots
+pub mod Parts
+pub mod TokenArcs
+pub mod TokenRange
+pub mod TokenBounds
+pub mod TokenLater
+pub mod TokenMembers
+pub mod TokenLayers
+pub mod TokenRoot
+pub mod Sums
