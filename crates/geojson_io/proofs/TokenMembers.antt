@@ -23,7 +23,7 @@ use Rattle.reading.specs.TokenParts.Members as data
 use Rattle.reading.specs.TokenParts.Members.{KnowsMember}
 use Rattle.reading.specs.Types.{geometry_named, geometry_type}
 use Rattle.reading.specs.declared.geometry.GeometryType.{GeometryType}
-use Rattle.reading.proofs.Converted.{Each, array_converts, known_converts, member_converts, object_of}
+use Rattle.reading.proofs.Conversions.{Each, array_converts, known_converts, member_converts, object_of}
 use Rattle.reading.proofs.Lists.{zip_map}
 use Rattle.reading.proofs.TokenPartsLemmas.Members.{member_faultless, id_means}
 use Rattle.shapes.specs.Ids.{HasI64}

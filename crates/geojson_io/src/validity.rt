@@ -9,7 +9,7 @@ use crate::parts::position::Position;
 use crate::parts::root::RootFeatures;
 use crate::token_reader::{self, TextRead};
 use faults::OutOfMemory;
-use faults::fault::Fault;
+use faults::fault::{Fault, FaultKind};
 use grid::transform::Grid;
 use json_parts::stop::Stop;
 use reading::document::document;

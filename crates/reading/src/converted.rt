@@ -7,8 +7,7 @@ ghost use Rattle.reading.specs.Converted.{Converts, IsConverted};
 ghost use Rattle.reading.specs.ConvertedLaws.{array_within};
 ghost use Rattle.std.specs.Prelude.{refl};
 
-use crate::part::Part;
-use crate::token_parts::part::read_part;
+use crate::token_parts::part::{TryPart, read_part};
 use crate::tokens::skip::skip_value;
 use json::Reader;
 use json_parts::from_tokens::FromTokens;
@@ -37,7 +36,7 @@ pub struct ByValue<P> {
     pub part: P,
 }
 
-impl<'t, P: Part> FromTokens<'t> for ByValue<P> {
+impl<'t, P: TryPart> FromTokens<'t> for ByValue<P> {
     type Made = P::Made;
 
     type Count = ();
@@ -55,7 +54,7 @@ impl<'t, P: Part> FromTokens<'t> for ByValue<P> {
     }
 }
 
-impl<'t, P: Part> Within<'t, SerdeJson> for ByValue<P> {
+impl<'t, P: TryPart> Within<'t, SerdeJson> for ByValue<P> {
     ghost within = { λ p j x a b h. (h.0, h.1) };
 }
 

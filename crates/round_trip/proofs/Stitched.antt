@@ -15,7 +15,7 @@ use Rattle.reading.specs.Numbers.{whole_of}
 use Rattle.reading.specs.Parts.{list_faults}
 use Rattle.topo_text.specs.Arcs.{known, no_arc_faults, index_faults, used_arc, used_arcs, same_as, meets, stitched_onto, stitched, stitched_faults, stitching_faults, stitched_of, list_or_none}
 use Rattle.topo_text.proofs.Indexes.{number_of_index, along_index}
-use Rattle.topo_io.proofs.Stitching.{stitched_passed}
+use Rattle.topo_io.proofs.StitchingLaws.{stitched_passed}
 use Rattle.topo_io.proofs.Stitched.{meets_last}
 use Rattle.round_trip.specs.Compact.Good.{Good}
 use Rattle.shapes.specs.Ids.{IsI64}

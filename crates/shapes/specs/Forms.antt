@@ -1,9 +1,29 @@
 -- The kind of a geometry, its points, lines and rings, and geometries of other lines and rings.
-use Rattle.std.specs.Prelude.{ℕ, List, [], ◌∷◌, codes, map}
+use Rattle.std.specs.Prelude.{ℕ, Bool, true, false, List, [], ◌∷◌, codes, map}
 use Rattle.grid.specs.declared.pos.Pos.{Pos}
 use Rattle.theory.specs.Lists.{joined}
 use Rattle.shapes.specs.declared.form.Form.{Form}
 use Rattle.shapes.specs.declared.form.Form.TheVariants.{Null, Point, MultiPoint, Line, MultiLine, Polygon, MultiPolygon}
+
+-- the geometry is the null geometry [RFC 7946, 3.2]
+abbrev pub is_null : {L R : Type 0} → Form L R → Bool
+is_null Null = true
+is_null (Point p) = false
+is_null (MultiPoint ps) = false
+is_null (Line l) = false
+is_null (MultiLine ls) = false
+is_null (Polygon rs) = false
+is_null (MultiPolygon ps) = false
+
+-- the geometry is a point or points [RFC 7946, 3.1]
+abbrev pub has_positions : {L R : Type 0} → Form L R → Bool
+has_positions Null = false
+has_positions (Point p) = true
+has_positions (MultiPoint ps) = true
+has_positions (Line l) = false
+has_positions (MultiLine ls) = false
+has_positions (Polygon rs) = false
+has_positions (MultiPolygon ps) = false
 
 -- the name of a geometry's type, null for the null geometry [RFC 7946, 1.4]
 abbrev pub kind_name : {L R : Type 0} → Form L R → List ℕ

@@ -1,5 +1,4 @@
 //! The seven kinds of geometry, over any lines and any rings.
-ghost use Rattle.shapes.specs.Forms.{kind_name};
 ghost use Rattle.std.specs.Prelude.{◌≡◌, IfOk};
 
 use crate::copying::CopyIn;
@@ -40,6 +39,22 @@ impl<L: CopyIn, R: CopyIn> Form<L, R> {
 }
 
 impl<L, R> Form<L, R> {
+    ghost use Rattle.shapes.specs.Forms.{has_positions, is_null, kind_name};
+
+    /// Whether it is the null geometry.
+    pub fn is_null(&self) -> bool
+        ensures { result ≡ is_null self.now }
+    {
+        matches!(self, Form::Null)
+    }
+
+    /// Whether it is a point or points.
+    pub fn has_positions(&self) -> bool
+        ensures { result ≡ has_positions self.now }
+    {
+        matches!(self, Form::Point(_) | Form::MultiPoint(_))
+    }
+
     /// The name of its type (RFC 7946, section 1.4); `null` for the null geometry.
     pub fn kind_name(&self) -> &'static str
         ensures { result.now ≡ kind_name self.now }

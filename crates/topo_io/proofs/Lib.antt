@@ -2,14 +2,14 @@ pub mod AllFaults
 pub mod Ascending
 pub mod Comparing
 pub mod Parts
-pub mod Stitching
+pub mod StitchingLaws
 pub mod Filling
 pub mod Fitting
 pub mod Once
 pub mod Known
 pub mod Stitched
 pub mod Needed
-pub mod Features
+pub mod FeatureLaws
 pub mod JudgedLists
 pub mod BodyLists
 pub mod Entries

@@ -39,7 +39,7 @@ use Rattle.topo_text.specs.Parts.{plain_geom, layer_of_geoms, arcs_of_text, AreS
 use Rattle.topo_io.specs.Stitching.{StitchToLine, StitchToRing, BodyStitches, GeomStitches, LayerStitches, line_along, ring_along, form_along, feature_along, layer_along}
 use Rattle.topo_io.proofs.Filling.{plain_of, names_of, are_layers}
 use Rattle.topo_io.proofs.Known.{stitches_faultless, features_stitched}
-use Rattle.topo_io.proofs.Stitching.{stitched_passed}
+use Rattle.topo_io.proofs.StitchingLaws.{stitched_passed}
 
 -- ---- stitching
 

@@ -29,20 +29,24 @@ use serde_json::Value;
 use std::alloc::Global;
 
 /// The parts of a topology on that grid.
-fn parts_on(alloc: Global, grid: Grid, value: &Value) -> Result<TextParts, Fault>
-    ensures loose { OnOk result (loose_content (limits_on grid) (view value.now) ≡ []) }
-    ensures grid { IfOk result (λ p. p.grid ≡ grid) }
+fn parts_on(alloc: Global, grid: &Grid, value: &Value) -> Result<TextParts, Fault>
+    ensures loose { OnOk result (loose_content (limits_on grid.now) (view value.now) ≡ []) }
+    ensures grid { IfOk result (λ p. p.grid ≡ grid.now) }
     ensures parts { IfOk result (λ p. ArePartsOf (view value.now) p.arcs.items p.layers.items) }
-    ensures err { IfErr result (NotOrWant (loose_content (limits_on grid) (view value.now) ≡ [])) }
+    ensures err { IfErr result (NotOrWant (loose_content (limits_on grid.now) (view value.now) ≡ [])) }
 {
-    let limits = Limits::of(&grid);
+    let limits = Limits::of(grid);
     let arcs = read_list_member(alloc, ArcOf { limits }, value, "arcs")?;
     let count = arcs.len();
     let of = ObjectsOf {
         on: Ground { limits, count },
     };
     let layers = read_member(alloc, &of, value, "objects")?;
-    Ok(TextParts { grid, arcs, layers })
+    Ok(TextParts {
+        grid: *grid,
+        arcs,
+        layers,
+    })
 }
 
 fn parts_with(alloc: Global, transform: &Value, value: &Value) -> Result<TextParts, Fault>
@@ -52,7 +56,7 @@ fn parts_with(alloc: Global, transform: &Value, value: &Value) -> Result<TextPar
     ensures err { IfErr result (NotOrWant (loose_transformed (view value.now) (Some (view transform.now)) ≡ [])) }
 {
     let grid = read_transform(alloc, transform)?;
-    parts_on(alloc, grid, value)
+    parts_on(alloc, &grid, value)
 }
 
 /// The parts of a topology that is this value, where all that is not known of it is what its lists of arcs stitch

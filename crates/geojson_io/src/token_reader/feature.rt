@@ -8,7 +8,7 @@ ghost use Rattle.reading.specs.Converted.{IsConverted};
 ghost use Rattle.reading.specs.Info.{member_or_null, properties_of};
 ghost use Rattle.reading.specs.Plain.{plain};
 ghost use Rattle.reading.specs.TokenParts.Members.{KnowsProps};
-ghost use Rattle.serde_json.specs.Data as data;
+ghost use Rattle.serde_json.specs.Data as values;
 ghost use Rattle.serde_json.specs.Data.{Data};
 ghost use Rattle.serde_json.specs.Read.{of_json};
 ghost use Rattle.shapes.specs.Parts.{properties_text};
@@ -78,7 +78,7 @@ pub fn feature_parts(position: &Position) -> FeatureParts
 
 // The properties that were read, or empty ones where the member is missing.
 fn props_of(alloc: Global, props: Lookup<Props>) -> Result<Props, Stop>
-    ensures { IfOk result (λ p. (o : Option the_props) × (props ≡ lookup_of o) × ((ms : data.Members) → KnowsProps o ms → properties_text p ≡ properties_of (member_or_null (codes "properties") (data.object ms)))) }
+    ensures { IfOk result (λ p. (o : Option the_props) × (props ≡ lookup_of o) × ((ms : values.Members) → KnowsProps o ms → properties_text p ≡ properties_of (member_or_null (codes "properties") (values.object ms)))) }
 {
     props_or_empty(alloc, props.into_member()?)
 }

@@ -1,4 +1,4 @@
-use Rattle.topo_io.proofs.Features.{said_refused}
+use Rattle.topo_io.proofs.FeatureLaws.{said_refused}
 use Rattle.topo_io.proofs.Fitting.{means_fits}
 use Rattle.topo_io.proofs.features.map_of_parts.Goals as goal
 

@@ -4,7 +4,7 @@ use Rattle.reading.proofs.Results.{ok_map, err_map}
 use Rattle.topo_text.specs.Parts.{layer_of_geoms, NotOrWant}
 use Rattle.topo_io.specs.Stitching.{LayerStitches, layer_along}
 use Rattle.topo_text.proofs.Each.{all_mapped, each_mapped, refused_want}
-use Rattle.topo_io.proofs.Features.{said_stitched}
+use Rattle.topo_io.proofs.FeatureLaws.{said_stitched}
 use Rattle.topo_io.proofs.features.stitched_map.Goals as goal
 
 pub returns-in_err-layers-clause-err : goal.returns-in_err-layers-clause-err

@@ -2,7 +2,7 @@ use Rattle.std.proofs.Common.{◌≡◌, None, slice_get, ap, sym, ◌∙◌}
 use Rattle.std.proofs.lemmas.Option.{slice_get_past}
 use Rattle.theory.specs.ArcNumbers.{ArcRef}
 use Rattle.topo_text.specs.Arcs.{meets, onto}
-use Rattle.topo_io.proofs.Stitching.{along_none, onto_none}
+use Rattle.topo_io.proofs.StitchingLaws.{along_none, onto_none}
 use Rattle.topo_io.proofs.stitching.append_used.Goals as goal
 
 pub returns-in-None-clause-meets : goal.returns-in-None-clause-meets

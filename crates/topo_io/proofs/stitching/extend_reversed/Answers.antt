@@ -1,6 +1,6 @@
 use Rattle.std.proofs.Common.{[], ◌∷◌, ◌++◌, reverse, sym, ap, ◌∙◌, append_assoc, append-nil}
 use Rattle.topo_text.proofs.Each.{none_left}
-use Rattle.topo_io.proofs.Stitching.{reverse_last}
+use Rattle.topo_io.proofs.StitchingLaws.{reverse_last}
 use Rattle.topo_io.proofs.stitching.extend_reversed.Goals as goal
 
 pub loop-last-preserved : goal.loop-last-preserved

@@ -3,7 +3,7 @@ use Rattle.faults.specs.Fault.{Pair}
 use Rattle.grid.specs.declared.pos.Pos.{Pos}
 use Rattle.reading.specs.Fault.{LeastOrWant}
 use Rattle.topo_text.specs.Arcs.{along, stitched, stitched_faults, stitched_onto}
-use Rattle.topo_io.proofs.Stitching.{broken_at, used_more}
+use Rattle.topo_io.proofs.StitchingLaws.{broken_at, used_more}
 use Rattle.topo_io.proofs.stitching.stitch.Goals as goal
 
 pub returns-in_err-append_used-clause-err : goal.returns-in_err-append_used-clause-err

@@ -5,7 +5,7 @@ use Rattle.topo_io.specs.Means.{IsTopologyOver}
 use Rattle.topo_text.specs.Parts.{layer_of_geoms}
 use Rattle.topo_io.specs.Stitching.{LayerStitches}
 use Rattle.topo_text.proofs.Each.{all_mapped}
-use Rattle.topo_io.proofs.Features.{said_refused}
+use Rattle.topo_io.proofs.FeatureLaws.{said_refused}
 use Rattle.topo_io.proofs.Stitched.{over_means}
 use Rattle.topo_io.proofs.topology.topology_of_judged.Goals as goal
 

@@ -3,7 +3,7 @@ use Rattle.std.specs.List.{AllByRecursion}
 use Rattle.topo_text.specs.Parts.{layer_of_geoms}
 use Rattle.topo_io.specs.Stitching.{LayerStitches}
 use Rattle.topo_text.proofs.Each.{all_mapped}
-use Rattle.topo_io.proofs.Features.{said_accepted}
+use Rattle.topo_io.proofs.FeatureLaws.{said_accepted}
 use Rattle.topo_io.proofs.validity.is_faultless.Goals as goal
 
 pub returns-in_ok-layers_stitch-in-Ok : goal.returns-in_ok-layers_stitch-in-Ok

@@ -8,7 +8,7 @@ use Rattle.topo_text.proofs.reader.parts_on.Goals as goal
 pub returns-in_err-arcs-clause-err : goal.returns-in_err-arcs-clause-err
 returns-in_err-arcs-clause-err c =
     let v = view c.args.value.now in
-    let part : NotOrWant (loose_content (limits_on c.args.grid) v ≡ []) c.in_err-arcs.field-0.0 =
+    let part : NotOrWant (loose_content (limits_on c.args.grid.now) v ≡ []) c.in_err-arcs.field-0.0 =
     subst (λ l. NotOrWant (loose_content l v ≡ []) c.in_err-arcs.field-0.0) c.of.ensures (part_refused _ _ _ c.in_err-arcs.ensures.err (arcs_none c.of.result v)) in
     search (rules, part)
 
@@ -16,7 +16,7 @@ pub returns-in_err-layers-clause-err : goal.returns-in_err-layers-clause-err
 returns-in_err-layers-clause-err c =
     let v = view c.args.value.now in
     let needs = objects_none c.of.result v c.in_ok-arcs.arcs.items c.len.result c.len.ensures c.in_ok-arcs.ensures.made in
-    let part : NotOrWant (loose_content (limits_on c.args.grid) v ≡ []) c.in_err-layers.field-0.0 =
+    let part : NotOrWant (loose_content (limits_on c.args.grid.now) v ≡ []) c.in_err-layers.field-0.0 =
     subst (λ l. NotOrWant (loose_content l v ≡ []) c.in_err-layers.field-0.0) c.of.ensures (part_refused _ _ _ c.in_err-layers.ensures.err needs) in
     search (rules, part)
 

@@ -1,5 +1,5 @@
 use Rattle.std.proofs.Common.{◌≡◌, [], sym, ap, ◌∙◌, subst}
-use Rattle.reading.proofs.Converted.{object_of}
+use Rattle.reading.proofs.Conversions.{object_of}
 use Rattle.geojson_io.specs.Features.{feature_members, feature_of}
 use Rattle.geojson_io.specs.TokenMembers.{KnowsId, KnowsProps, KnowsShape}
 use Rattle.geojson_io.proofs.TokenMembers.{feature_faultless, feature_means, parts_convert}

@@ -1,5 +1,5 @@
 use Rattle.std.proofs.lemmas.Result.{IfOk-weaker}
-use Rattle.reading.proofs.Converted.{reads_tree}
+use Rattle.reading.proofs.Conversions.{reads_tree}
 use Rattle.reading.proofs.converted.ByValueFromTokens.read.Goals as goal
 
 pub returns : goal.returns

@@ -1,5 +1,5 @@
 use Rattle.std.proofs.lemmas.Result.{on_ok_weaker}
-use Rattle.reading.proofs.Converted.{gives_tree}
+use Rattle.reading.proofs.Conversions.{gives_tree}
 use Rattle.reading.proofs.converted.SerdeJsonSkip.skip.Goals as goal
 
 pub returns : goal.returns

@@ -3,7 +3,7 @@ use Rattle.std.proofs.lemmas.Result.{IfOk-weaker}
 use Rattle.json_parts.specs.declared.lookup.Lookup.TheVariants.{Read}
 use Rattle.serde_json.specs.Data.{object}
 use Rattle.json.specs.Json as json
-use Rattle.reading.proofs.Converted.{object_converts}
+use Rattle.reading.proofs.Conversions.{object_converts}
 use Rattle.geojson_io.specs.TokenMembers.{KnowsType}
 use Rattle.geojson_io.specs.declared.parts.root.Root.TheVariants as root
 use Rattle.geojson_io.proofs.TokenMembers.{element_faultless}

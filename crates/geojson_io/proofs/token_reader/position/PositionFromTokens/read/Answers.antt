@@ -1,7 +1,7 @@
 use Rattle.std.proofs.Common.{◌≡◌, ◌∷◌, Ok, ap, ◌∙◌, sym, subst}
 use Rattle.json.specs.Token.{Token, begin_array}
 use Rattle.grid.specs.Computed.{axis_number}
-use Rattle.reading.proofs.Converted.{reads_tree}
+use Rattle.reading.proofs.Conversions.{reads_tree}
 use Rattle.reading.proofs.Positions.{number_reads}
 use Rattle.geojson_io.specs.Positions.{position_faults, position_of}
 use Rattle.reading.specs.Tokens.Reads.{Reads}
