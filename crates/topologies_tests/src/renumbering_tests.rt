@@ -80,7 +80,7 @@ fn are_in_order(
     other: &Geom,
 ) -> Result<bool, Fail>
     requires noded { AreNoded arcs.now.arcs }
-    requires noted { IsRecordedFor arcs.now.arcs order.old }
+    requires recorded { IsRecordedFor arcs.now.arcs order.old }
     requires there { HasFeature arcs.now.arcs geometry.now }
     requires other_there { HasFeature arcs.now.arcs other.now }
     ensures { IsRecordedFor arcs.now.arcs order.new }
@@ -103,7 +103,7 @@ fn comes_first(
     others: &[Geom],
 ) -> Result<bool, Fail>
     requires noded { AreNoded arcs.now.arcs }
-    requires noted { IsRecordedFor arcs.now.arcs order.old }
+    requires recorded { IsRecordedFor arcs.now.arcs order.old }
     requires there { HasFeature arcs.now.arcs geometry.now }
     requires others_there { HaveFeatures arcs.now.arcs others.now }
     ensures { IsRecordedFor arcs.now.arcs order.new }

@@ -68,12 +68,12 @@ fn read_tokens(alloc: Global, square: &Square) -> Result<bool, OutOfMemory> {
 
 /// The features of a text's parts.
 fn map(alloc: Global, square: &Square) -> Result<bool, OutOfMemory> {
-    let parts = match topo_io::read_parts(alloc, FIRST.as_bytes()) {
-        Ok(parts) => parts,
+    let (arcs, layers) = match topo_io::read_parts(alloc, FIRST.as_bytes()) {
+        Ok(parts) => (parts.arcs, parts.layers),
         // So it stops too where memory is refused to a part that is read by way of its value.
         Err(Stop::OutOfMemory | Stop::Unread) => return Err(OutOfMemory),
     };
-    match topo_io::map_of_parts(alloc, &parts.arcs, parts.layers)? {
+    match topo_io::map_of_parts(alloc, &arcs, layers)? {
         Some(map) => Ok(same_map(&map, &square.map)),
         None => Ok(false),
     }

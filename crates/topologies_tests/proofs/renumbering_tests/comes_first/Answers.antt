@@ -9,7 +9,7 @@ are_in_order-requires-clause-other_there c =
 
 pub loop-other-preserved : goal.loop-other-preserved
 loop-other-preserved c = record {
-  noted = c.are_in_order.ensures;
+  recorded = c.are_in_order.ensures;
   there = (subst (HaveFeatures c.args.arcs.now.arcs) (drop_item c.args.others.now c.loop-other.other-index c.other-item.result c.loop-other-test.true c.other-item.is)
       c.loop-other.invariant.there).1;
 }

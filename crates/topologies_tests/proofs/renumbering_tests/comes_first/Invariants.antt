@@ -5,6 +5,6 @@ use Rattle.topologies_tests.proofs.renumbering_tests.comes_first.Given as goal
 
 abbrev pub invariant-loop-other : goal.invariant-loop-other
 invariant-loop-other l = record {
-  noted : IsRecordedFor l.fn.arcs.arcs l.order;
+  recorded : IsRecordedFor l.fn.arcs.arcs l.order;
   there : HaveFeatures l.fn.arcs.arcs (drop l.other-index l.fn.others);
 }
