@@ -14,8 +14,9 @@ use topo::Topology;
 fn read_topology(alloc: Global, bytes: &[u8]) -> Option<Result<(Grid, FeatureMap), Fault>> {
     match topo_io::read_parts_as_value(alloc, bytes) {
         Ok(parts) => {
-            let map = topo_io::map_of_parts(alloc, &parts.arcs, parts.layers).ok()??;
-            Some(Ok((parts.grid, map)))
+            let (grid, arcs, layers) = (parts.grid, parts.arcs, parts.layers);
+            let map = topo_io::map_of_parts(alloc, &arcs, layers).ok()??;
+            Some(Ok((grid, map)))
         }
         Err(fault) => Some(Err(fault)),
     }
