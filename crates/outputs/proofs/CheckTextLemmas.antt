@@ -1,5 +1,8 @@
 -- What `check` prints, as it is written.
-use Rattle.std.proofs.Common.{◌≡◌, ◌∙◌, ◌+◌, ℕ, Bool, List, [], ◌∷◌, ◌++◌, None, OnOk, Option, Result, Some, ap, append-nil, codes, cond, decimal, is_some, length, refl, sym}
+use Rattle.std.proofs.Common.{◌≡◌, ◌∙◌, ◌+◌, ◌<◌, ◌≤◌, ℕ, Bool, List, [], ◌∷◌, ◌++◌, None, OnOk, Option, Result, Some, ap, append-nil, arith, codes, cond, decimal, drop, false, get_or, is_some, length, refl, sum_by, sym, true}
+use mir.Val.{bool_byte}
+use Rattle.std.proofs.lemmas.List.{at_drop_more}
+use Rattle.std.proofs.lemmas.List.Sums.{sum_by-cons}
 use Rattle.std.specs.Borrow.{Bor}
 use Rattle.std.specs.Option.{option_copied}
 use Rattle.std.specs.Result.{OnErr}
@@ -29,12 +32,34 @@ use Rattle.outputs.specs.declared.check_text.ids.LayerIds.{LayerIds}
 pub same_ids : (a b : Id) (e : Bool) → e ≡ id_eq.eq-value.it a b → e ≡ is_eq (id_cmp a b)
 same_ids a b e is = is ∙ id_ties a b ∙ ap is_eq (id_derived_is a b)
 
+byte_is : (b : Bool) → bool_byte b ≡ one_if b
+byte_is true = refl
+byte_is false = refl
+
+one_at_most : (b : Bool) → one_if b ≤ 1
+one_at_most true = omega arith
+one_at_most false = omega arith
+
 -- the ids of some numbers, of which the first is known
-pub ids_step : (of : ℕ → Option Id) (before : Option Id) (numbers ns : List ℕ) (n : ℕ) {i : Option Id} {b : Bool} → numbers ≡ n ∷ ns → i ≡ of n → b ≡ is_as_before before i →
+ids_step : (of : ℕ → Option Id) (before : Option Id) (numbers ns : List ℕ) (n : ℕ) {i : Option Id} {b : Bool} → numbers ≡ n ∷ ns → i ≡ of n → b ≡ is_as_before before i →
     ids_behind of before numbers ≡ one_if (not b) + ids_behind of i ns
 ids_step of before numbers ns n {i} {b} first here same =
     let told : is_as_before before (of n) ≡ b = ap (is_as_before before) (sym here) ∙ sym same in
     ap (ids_behind of before) first ∙ (λ j. one_if (not (told j)) + ids_behind of (sym here j) ns)
+
+pub one_more_id : (of : ℕ → Option Id) (before : Option Id) (numbers ns : List ℕ) (n count k total most : ℕ) {i : Option Id} {b : Bool} → numbers ≡ n ∷ ns → i ≡ of n → b ≡ is_as_before before i → k ≡ bool_byte (not b) →
+    (count + ids_behind of before numbers ≡ total) × (count + length numbers ≤ most) → (count + k + ids_behind of i ns ≡ total) × (count + k + length ns ≤ most)
+one_more_id of before numbers ns n count k total most {i} {b} first here same is so_far =
+    let step = ids_step of before numbers ns n first here same in
+    let one : k ≡ one_if (not b) = is ∙ byte_is (not b) in
+    let long : length numbers ≡ length ns + 1 = ap length first ∙ omega arith in
+    (omega (arith, step, one, so_far.0), omega (arith, one, one_at_most (not b), long, so_far.1))
+
+-- a sum over what is left of a list, up to an item
+pub sum_step : {X : Type 0} (f : X → ℕ) (xs : List X) (i : ℕ) (x : X) (count k total : ℕ) → i < length xs → x ≡ get_or xs i x → k ≡ f x → count + sum_by f (drop i xs) ≡ total → count + k + sum_by f (drop (i + 1) xs) ≡ total
+sum_step f xs i x count k total lt at is so_far =
+    let step : sum_by f (drop i xs) ≡ f x + sum_by f (drop (i + 1) xs) = at_drop_more (sum_by f) xs i x lt ∙ ap (λ y. sum_by f (y ∷ drop (i + 1) xs)) (sym at) ∙ sum_by-cons f x (drop (i + 1) xs) in
+    omega (arith, step, is, so_far)
 
 -- an id that is lent
 lent_text : (o : Option (Bor Id)) → option_text id_value_text (option_copied o) ≡ option_text (λ i. id_value_text i.now) o
