@@ -73,10 +73,10 @@ impl<'a> Written for ArcsText<'a> {
     ghost text = { λ a. joined arc_text a.0.now.arcs };
 
     fn write<W: Sink>(&self, sink: &mut W) -> Result<(), WriteFault> {
-        let mut separator = "";
+        let mut separator: &[u8] = b"";
         for arc in self.0.iter() {
             match (separator, Bracketed(ArcPositions(arc))).write(sink) {
-                Ok(()) => separator = ",",
+                Ok(()) => separator = b",",
                 Err(fault) => return Err(fault),
             }
         }

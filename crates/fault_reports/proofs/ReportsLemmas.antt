@@ -1,20 +1,24 @@
 -- Lemmas on what is reported of each error of a text.
-use Rattle.std.proofs.Common.{◌≡◌, ℕ, ◌<◌, ◌≤◌, ◌-◌, All, Err, IfOk, IfSome, List, [], ◌++◌, None, Ok, Option, Result, Some, arith, get_or, inl, inr, length, map, slice_get, subst, sym, take, vec_len, ◌∷◌, ◌∙◌}
+use Rattle.std.proofs.Common.{◌≡◌, ℕ, ◌<◌, ◌≤◌, ◌-◌, All, Err, IfOk, IfSome, List, [], ◌++◌, None, Ok, Option, Result, Some, ap, arith, get_or, if◌then◌else◌, inl, inr, is_some, length, map, refl, slice_get, subst, sym, take, true, vec_len, ◌∷◌, ◌∙◌}
 use Rattle.std.specs.Borrow.{Bor}
 use Rattle.std.specs.Global.{Vec}
 use Rattle.std.specs.Option.{option_copied, option_to_list}
-use Rattle.std.specs.Prelude.{unwrap_or}
+use Rattle.std.specs.Prelude.{not, unwrap_or, ⊤}
 use Rattle.std.proofs.lemmas.Grind.{common_steps}
 use Rattle.std.proofs.lemmas.List.Elements.{All-get_or, All-head, All-tail}
 use Rattle.std.proofs.lemmas.Option.{get_or_from_slice_get, slice_get-get_or, slice_get_within}
+use Rattle.std.proofs.lemmas.Str.{is_utf8-from_IsUtf8}
 use Rattle.faults.specs.declared.fault.Fault.{Fault}
-use Rattle.serde_json.specs.Data.{Data}
+use Rattle.faults.specs.declared.fault.FaultKind.TheVariants.{NotJson}
+use Rattle.reading.specs.Text.{document}
+use Rattle.serde_json.specs.Data.{Data, null}
 use Rattle.serde_json.specs.Read.{read}
 use Rattle.fault_reports.specs.FaultPlaces.{AreUpTo}
 use Rattle.fault_reports.specs.FaultReports.{reported_fault}
 use Rattle.fault_reports.specs.LineColumns.{place_behind}
 use Rattle.fault_reports.specs.ReportsOfTexts.{HasItsId, IsPlaceIn, IsReadAs, IsReport, IsReportOf}
 use Rattle.fault_reports.specs.declared.features.Format.{Format}
+use Rattle.fault_reports.specs.declared.features.Format.TheVariants.{GeoJson}
 use Rattle.fault_reports.specs.declared.line_columns.LineColumn.{LineColumn}
 use Rattle.fault_reports.specs.declared.report.FaultReport.{FaultReport}
 
@@ -51,6 +55,27 @@ report_is format bytes text fault place r reads at says = record {
   place = subst (IsPlaceIn bytes) (sym says.place_is) at;
   says = subst (λ f. IsReportOf format text f r.place r) (sym says.fault_is) (subst (λ p. IsReportOf format text fault p r) (sym says.place_is) says);
 }
+
+-- a text that is no JSON is read as null
+pub none_of : (o : Option Data) → true ≡ not (is_some o) → o ≡ None
+none_of None e = refl
+none_of (Some d) e = absurd cc
+
+pub read_as_none : (bytes : List ℕ) (text : Data) → document bytes ≡ None → text ≡ null → IsReadAs bytes text
+read_as_none bytes text none is = inr (λ utf8. sym (ap (λ b. if b then read bytes else None) (is_utf8-from_IsUtf8 bytes utf8)) ∙ none, is)
+
+-- and its place is that of a byte of it
+pub byte_place : (bytes : List ℕ) (at : ℕ) (place : LineColumn) → (at ≤ length bytes → place ≡ place_behind (take at bytes)) → at ≤ length bytes → IsPlaceIn bytes place
+byte_place bytes at place is within = record { at = at; within = within; is = is within }
+
+pub end_report : {E : Type 0} (bytes : List ℕ) (at : ℕ) (text : Data) (fault : Fault) (place : LineColumn) (r : Result FaultReport E) → text ≡ null → (at ≤ length bytes → place ≡ place_behind (take at bytes))
+    → IfOk r (λ x. ⊤ → IsReportOf GeoJson text fault place x) → IfOk r (λ x. at ≤ length bytes → document bytes ≡ None → IsReport GeoJson bytes x)
+end_report bytes at text fault place (Ok x) is here says = λ within none. report_is GeoJson bytes text fault place x (read_as_none bytes text none is) (byte_place bytes at place here within) (says tt)
+end_report bytes at text fault place (Err e) is here says = tt
+
+pub end_kind : {E : Type 0} (text : Data) (fault : Fault) (place : LineColumn) (r : Result FaultReport E) → fault.kind ≡ NotJson → IfOk r (λ x. ⊤ → IsReportOf GeoJson text fault place x) → IfOk r (λ x. x.fault.kind ≡ NotJson)
+end_kind text fault place (Ok x) is says = ap (λ f. f.kind) (says tt).fault_is ∙ is
+end_kind text fault place (Err e) is says = tt
 
 one_read : (o : Option Data) (a b : Data) → o ≡ Some a → o ≡ Some b → a ≡ b
 one_read o a b e f = cc

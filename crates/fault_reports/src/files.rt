@@ -92,8 +92,7 @@ impl<'a> Written for FilesObjects<'a> {
 
     fn write<W: Sink>(&self, sink: &mut W) -> Result<(), WriteFault> {
         let mut is_behind = false;
-        let mut left = self.0;
-        while let Some((file, after)) = left.split_first() {
+        for file in self.0 {
             let reports = file.reports.as_slice();
             let objects = SeparatedValues {
                 separator: ",\n",
@@ -102,7 +101,7 @@ impl<'a> Written for FilesObjects<'a> {
                 notation: &ReportObjects(&file.spelled, self.1),
             };
             match objects.write(sink) {
-                Ok(()) => left = after,
+                Ok(()) => {}
                 Err(fault) => return Err(fault),
             }
             is_behind = has_some(is_behind, reports.len());

@@ -35,7 +35,7 @@ impl<'a> Written for MembersOf<'a> {
 
     fn write<W: Sink>(&self, sink: &mut W) -> Result<(), WriteFault> {
         let ids = Lists(IdsOf(self.0));
-        let mut separator = "";
+        let mut separator: &[u8] = b"";
         let mut others = self.0;
         let mut left = self.1;
         while let Some((geometry, behind)) = others.split_first() {
@@ -43,7 +43,7 @@ impl<'a> Written for MembersOf<'a> {
                 return Ok(());
             };
             match (separator, IdKey(&geometry.id), ":", Noted(list, &ids)).write(sink) {
-                Ok(()) => separator = ",",
+                Ok(()) => separator = b",",
                 Err(fault) => return Err(fault),
             }
             others = behind;

@@ -22,10 +22,10 @@ impl<'a> Written for LinesIn<'a> {
     ghost text = { λ l. joined (line_text l.1.now) l.0.now.arcs };
 
     fn write<W: Sink>(&self, sink: &mut W) -> Result<(), WriteFault> {
-        let mut separator = "";
+        let mut separator: &[u8] = b"";
         for line in self.0.iter() {
             match (separator, Listed(line, &Places(self.1))).write(sink) {
-                Ok(()) => separator = ",",
+                Ok(()) => separator = b",",
                 Err(fault) => return Err(fault),
             }
         }

@@ -1,6 +1,5 @@
 //! Ids that are missing, and ids that occur more than once, as lines.
-ghost use Rattle.outputs.specs.CheckText.{found_ids, finding_of, finds_no_ids, id_at, id_behind, id_lines, ids_behind, ids_if, ids_text, is_as_before, layer_finding, layer_lines, missing_line, repeated_lines};
-ghost use Rattle.shapes.specs.declared.shape.Id as shape_ids;
+ghost use Rattle.outputs.specs.CheckText.{finding_of, finds_no_ids, found_ids, id_at, ids_behind, ids_if, ids_text, is_as_before, layer_finding, layer_lines, missing_count, missing_line, repeated_count, repeated_lines};
 ghost use Rattle.std.specs.Option.{option_copied};
 ghost use Rattle.std.specs.Prelude.{◌≡◌, IfOk, None, map, sum};
 

@@ -41,10 +41,10 @@ fn write_joined<W: Sink, T: Drop, N: Notation<T>, I: Iterator<Item = T>>(
     ensures whole { OnOk result (WritesAll I.next_gives (N.text notation.now) values.old values.new (W.seen sink.old) (W.seen sink.new)) }
     ensures part { OnErr result (StopsAtValue I.next_gives (N.text notation.now) values.old values.new (W.seen sink.old) (W.seen sink.new)) }
 {
-    let mut separator = "";
+    let mut separator: &[u8] = b"";
     while let Some(value) = values.next() {
         match (separator, Noted(&value, notation)).write(sink) {
-            Ok(()) => separator = ",",
+            Ok(()) => separator = b",",
             Err(stop) => return Err(stop),
         }
     }
