@@ -39,11 +39,11 @@ impl<'n, 't, S: Skip, T, P: ReadMember<'t, S, T>> ReadMembers<'t, S, T> for Memb
         reader: &mut Reader<'t>,
         depth: usize,
     ) -> Result<bool, Stop> {
-        if name != self.name {
-            return Ok(false);
+        if name == self.name {
+            *found = self.part.read_member(alloc, kind, reader, depth)?;
+            return Ok(true);
         }
-        *found = self.part.read_member(alloc, kind, reader, depth)?;
-        Ok(true)
+        Ok(false)
     }
 
     ghost kept = { λ m l name j ms other h. member_kept m.name.now (P.means m.part) l name j ms (not_named name m.name.now other) h };

@@ -60,7 +60,10 @@ fn member_of<P>(name: &'static str, part: P) -> FeatureMember<P>
 
 /// The members of a feature other than its type.
 pub fn feature_parts(position: &Position) -> FeatureParts
-    ensures { (result.first.part.part.position ≡ position.now) }
+    ensures geometry { result.first.name.now ≡ codes "geometry" }
+    ensures position { result.first.part.part.position ≡ position.now }
+    ensures id { result.second.first.name.now ≡ codes "id" }
+    ensures properties { result.second.second.name.now ≡ codes "properties" }
 {
     Both {
         first: member_of(

@@ -91,9 +91,9 @@ fn pass_members<'a>(bytes: &[u8], reader: &mut Reader<'a>, depth: usize) -> Resu
         let Ok(key) = reader.next_key() else {
             return Err(place_of_key(bytes, at, reader.offset()));
         };
-        if key.is_none() {
+        let Some(_) = key else {
             return Ok(());
-        }
+        };
         pass_value(bytes, reader, depth)?;
     }
 }
