@@ -1,5 +1,5 @@
 -- What the members that were read mean, of a geometry, a feature and a root.
-use Rattle.std.proofs.Common.{◌≡◌, ℕ, List, [], ◌∷◌, Option, Some, None, Result, Ok, Err, codes, Bool, true, false, bytes_eq, option_and_then, subst, map, Vec, Global, refl, sym, ap, ◌∙◌}
+use Rattle.std.proofs.Common.{◌≡◌, ℕ, List, [], ◌∷◌, Option, Some, None, MatchOption, Result, Ok, Err, codes, Bool, true, false, bytes_eq, option_and_then, subst, map, Vec, Global, refl, sym, ap, ◌∙◌}
 use Rattle.std.specs.List.{AllZip}
 use Rattle.std.specs.Str.{IsUtf8}
 use Rattle.std.specs.Prelude.{unwrap_or, if◌then◌else◌}
@@ -7,7 +7,9 @@ use Rattle.json.specs.Json as json
 use Rattle.json_parts.specs.Arrays.{ArrayMeans}
 use Rattle.json_parts.specs.Members as tree
 use Rattle.json_parts.specs.Members.{are_distinct, lookup_of}
-use Rattle.json_parts.specs.Whole.{value_of}
+use Rattle.json_parts.specs.Whole.{MatchTextRead, value_of}
+use Rattle.json_parts.specs.declared.text.TextRead.{TextRead}
+use Rattle.json_parts.specs.declared.text.TextRead.TheVariants as text_read
 use Rattle.json_parts.specs.declared.lookup.Lookup.{Lookup}
 use Rattle.json_parts.specs.declared.lookup.Lookup.TheVariants.{Read}
 use Rattle.json_parts.specs.declared.nested.Nested.{Nested}
@@ -23,7 +25,7 @@ use Rattle.reading.specs.Info.{IsIdOf, id_faults, properties_faults, properties_
 use Rattle.reading.specs.Parts.{named, type_text, unless_null, list_faults, elements}
 use Rattle.reading.specs.Plain.{Plain, plain, plain_form, plain_id}
 use Rattle.reading.specs.Text.{document}
-use Rattle.reading.specs.TokenParts.Members as data
+use Rattle.reading.specs.TokenParts.Members as values
 use Rattle.reading.specs.TokenParts.Members.{KnowsMember}
 use Rattle.reading.specs.Types.{geometry_named, geometry_type}
 use Rattle.reading.specs.declared.geometry.GeometryType.{GeometryType}
@@ -118,7 +120,7 @@ abbrev IsShape : Transform → Data → Shape → Type 0
 IsShape g d s = plain_form s ≡ geometry_form g d
 
 abbrev pub KnowsFeature : Transform → Option Shape → Option Id → Option Props → Members → Type 0
-KnowsFeature g s i p ds = KnowsMember (codes "geometry") (unless_null (geometry_faults g)) (IsShape g) s ds × data.KnowsId i ds × data.KnowsProps p ds
+KnowsFeature g s i p ds = KnowsMember (codes "geometry") (unless_null (geometry_faults g)) (IsShape g) s ds × values.KnowsId i ds × values.KnowsProps p ds
 
 pub parts_convert : (g : Transform) (s : Option Shape) (i : Option Id) (p : Option Props) (ms : json.Members) (ds : Members) → of_members ms no_members ≡ Some ds
     → KnowsShape g (lookup_of s) ms → KnowsId (lookup_of i) ms → KnowsProps (lookup_of p) ms → KnowsFeature g s i p ds
@@ -209,6 +211,18 @@ pub root_distinct : (a b c d e : List ℕ) → a ≡ codes "coordinates" → b �
 root_distinct a b c d e ea eb ec ed ee = rw (ea, eb, ec, ed, ee) refl
 
 -- ---- the text
+
+pub when_some : {A : Type 0} (P : Type 0) (Q : A → Type 0) (o : Option A) (x : A) → o ≡ Some x → MatchOption o P Q → Q x
+when_some P Q o x is h = subst (λ r. MatchOption r P Q) is h
+
+pub when_none : {A : Type 0} (P : Type 0) (Q : A → Type 0) (o : Option A) → o ≡ None → MatchOption o P Q → P
+when_none P Q o is h = subst (λ r. MatchOption r P Q) is h
+
+pub when_read : {X : Type 0} (P : Type 0) (Q : X → Type 0) (r : TextRead X) (x : X) → r ≡ text_read.Read x → MatchTextRead r P Q → Q x
+when_read P Q r x is h = subst (λ s. MatchTextRead s P Q) is h
+
+pub when_not_json : {X : Type 0} (P : Type 0) (Q : X → Type 0) (r : TextRead X) (at : ℕ) → r ≡ text_read.NotJson at → MatchTextRead r P Q → P
+when_not_json P Q r at is h = subst (λ s. MatchTextRead s P Q) is h
 
 -- the value of a text that is UTF-8, by the tree that it is
 pub text_is : (text : List ℕ) (j : json.Json) (d : Data) → IsUtf8 text → value_of max_depth text ≡ Some j → of_json j ≡ Some d → document text ≡ Some d

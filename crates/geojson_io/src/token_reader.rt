@@ -23,13 +23,12 @@ use grid::transform::Grid;
 use json::Scratch;
 use json_parts::member::Both;
 use json_parts::stop::Stop;
+pub use json_parts::text::TextRead;
 use json_parts::text::read_root;
 use reading::converted::SerdeJson;
 use reading::tokens::end::{end_of_json, last_place};
 use shapes::feature::Feature;
 use std::alloc::Global;
-
-pub use json_parts::text::TextRead;
 
 // How deep values may nest in `serde_json`.
 const MAX_DEPTH: usize = 127;
@@ -47,7 +46,13 @@ fn read_str(alloc: Global, text: &str, grid: &Grid) -> Result<TextRead<Vec<Featu
             second: feature_parts(&position),
         },
     };
-    match read_root::<SerdeJson, Root, RootMembers>(alloc, &members, text, &mut scratch, MAX_DEPTH)? {
+    match read_root::<SerdeJson, Root, RootMembers>(
+        alloc,
+        &members,
+        text,
+        &mut scratch,
+        MAX_DEPTH,
+    )? {
         TextRead::Read((kind, found)) => Ok(TextRead::Read(features_of_root(alloc, kind, found)?)),
         TextRead::NotJson(at) => Ok(TextRead::NotJson(at)),
         TextRead::Over => Ok(TextRead::Over),

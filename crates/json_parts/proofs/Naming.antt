@@ -80,11 +80,11 @@ distinct_apart name [] ys h among = absurd (cc)
 distinct_apart name (x ∷ xs) ys h among =
     let parts = both (not (is_among x (xs ++ ys))) (are_distinct (xs ++ ys)) h in
     let apart = neither (is_among x xs) (is_among x ys) (sym (among_split x xs ys) ∙ denied (is_among x (xs ++ ys)) parts.0) in
-    go (bytes_eq name x) refl parts.1 apart.1
+    go (bytes_eq name x) refl apart.1 (distinct_apart name xs ys parts.1)
   where
-    go : (b : Bool) → bytes_eq name x ≡ b → are_distinct (xs ++ ys) ≡ true → is_among x ys ≡ false → is_among name ys ≡ false
-    go true e rest apart = ap (λ n. is_among n ys) (same_name name x (sym e)) ∙ apart
-    go false e rest apart = distinct_apart name xs ys rest (sym (ap (λ b. b || is_among name xs) e) ∙ among)
+    go : (b : Bool) → bytes_eq name x ≡ b → is_among x ys ≡ false → (is_among name xs ≡ true → is_among name ys ≡ false) → is_among name ys ≡ false
+    go true e apart rest = ap (λ n. is_among n ys) (same_name name x (sym e)) ∙ apart
+    go false e apart rest = rest (sym (ap (λ b. b || is_among name xs) e) ∙ among)
 
 -- a name that is the one is none of the others
 pub apart_from : (name n : List ℕ) (ns : List (List ℕ)) → are_distinct (n ∷ ns) ≡ true → true ≡ bytes_eq name n → is_among name ns ≡ false

@@ -1,5 +1,5 @@
 -- Whole texts.
-use Rattle.std.proofs.Common.{◌≡◌, ℕ, ◌-◌, ◌<◌, List, [], ◌∷◌, length, Some, None, option_and_then, sym, ap, ◌∙◌}
+use Rattle.std.proofs.Common.{◌≡◌, ℕ, ◌-◌, ◌<◌, List, [], ◌∷◌, length, Some, None, option_and_then, sym, ap, ◌∙◌, subst}
 use Rattle.json.specs.Token.{Token, begin_object}
 use Rattle.json.specs.Lex.{tokens}
 use Rattle.json.specs.Json.{Json, object, if_last, members, parse_map, value}
@@ -12,6 +12,9 @@ use Rattle.json_parts.specs.declared.object.Grammar.TheVariants as grammar
 pub grammar_weaker : {X : Type 0} (g : Grammar X) (P Q : Type 0) (R S : X → Type 0) → (P → Q) → ((x : X) → R x → S x) → MatchGrammar g P R → MatchGrammar g Q S
 grammar_weaker (grammar.Read x) P Q R S broken read h = read x h
 grammar_weaker (grammar.Broken at) P Q R S broken read h = broken h
+
+pub when_read : {X : Type 0} (P : Type 0) (Q : X → Type 0) (r : Grammar X) (x : X) → r ≡ grammar.Read x → MatchGrammar r P Q → Q x
+when_read P Q r x is h = subst (λ g. MatchGrammar g P Q) is h
 
 -- an object whose members break the grammar
 pub object_broken : (depth : ℕ) (old mid : List Token) → 0 < depth → old ≡ begin_object ∷ mid → members (value (depth - 1)) (length mid) mid ≡ None → value depth old ≡ None

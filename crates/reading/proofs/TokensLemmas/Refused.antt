@@ -84,7 +84,7 @@ pub number_refused : (depth : ℕ) (old new : List Token) (s : List ℕ) → old
 number_refused depth old new s is large =
     ap (λ ts. converted of_json (value depth ts)) is ∙ ap (converted of_json) (value_is depth (Token.number s ∷ new)) ∙ gone (number_of s) large
   where
-    gone : (o : Option Num) → false ≡ is_some o → option_map (λ b. (b, new)) (option_map Data.number o) ≡ None
+    gone : (o : Option Num) → false ≡ is_some o → option_map {U = Data × List Token} (λ b. (b, new)) (option_map Data.number o) ≡ None
     gone None e = refl
     gone (Some m) e = absurd (cc)
 

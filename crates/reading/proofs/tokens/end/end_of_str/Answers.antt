@@ -7,8 +7,8 @@ use Rattle.reading.proofs.TokensLemmas.Reading.{nothing_left, whole_text}
 use Rattle.reading.proofs.TokensLemmas.Refused.{something_left, text_goes_on, text_refused}
 use Rattle.reading.proofs.tokens.end.end_of_str.Goals as goal
 
-pub returns-in-Err : goal.returns-in-Err
-returns-in-Err c =
+pub returns : goal.returns
+returns c =
     let none = text_refused c.args.text.now (subst (λ ts. converted of_json (value max_depth ts) ≡ None) c.in_ok-reader.ensures.ok c.in-Err.ensures.none) in
     rw none refl
 
@@ -21,8 +21,8 @@ returns-then-is_some c =
     let none = text_goes_on text read.0 (token_of next.0) c.pass_value.new.reader c.next.new.self given next.1 in
     rw none refl
 
-pub returns-else-is_some : goal.returns-else-is_some
-returns-else-is_some c =
+pub returns-in-Ok : goal.returns-in-Ok
+returns-in-Ok c =
     let text = c.args.text.now in
     let read = c.in-Ok.ensures.read in
     let given = subst (λ ts. Gives max_depth ts read.0 c.pass_value.new.reader) c.in_ok-reader.ensures.ok read.1 in

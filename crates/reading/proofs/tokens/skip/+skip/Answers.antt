@@ -6,10 +6,11 @@ use Rattle.json.specs.Reads.{token_of}
 use Rattle.json.proofs.Grammar.{read_key-shorter}
 use Rattle.serde_json.specs.Read.{converted, of_json}
 use Rattle.reading.specs.Tokens.Reads.{Gives}
+use Rattle.reading.proofs.Results.{on_err}
 use Rattle.reading.proofs.TokensLemmas.Numbers.{some_number}
 use Rattle.reading.proofs.TokensLemmas.Lists.{gone_none, gone_more, gone_all, array_gone, string_gives, boolean_gives, null_gives, number_gives}
 use Rattle.reading.proofs.TokensLemmas.Objects.{AnyMembers, known_none, known_more, members_all, object_gone}
-use Rattle.reading.proofs.TokensLemmas.Refused.{gone_refused, known_no_key, known_refused, array_refused, object_refused, array_too_deep, object_too_deep, number_refused, end_refused, key_first}
+use Rattle.reading.proofs.TokensLemmas.Refused.{gone_refused, known_no_key, known_refused, array_refused, object_refused, array_too_deep, object_too_deep, number_refused, end_refused, end_array_refused, end_object_refused, key_first, bad_refused}
 use Rattle.reading.proofs.tokens.skip.+skip.Goals as goal
 
 pub pass_items-items-init : goal.pass_items-items-init
@@ -92,7 +93,7 @@ pub pass_items-returns-in_err-pass_value-clause-none : goal.pass_items-returns-i
 pass_items-returns-in_err-pass_value-clause-none t c =
     let l = c.items in
     let going : (after_end_array l.reader ≡ None) × (c.take_end_array.new.self ≡ l.reader) = grind arith in
-    gone_refused c.args.depth c.args.reader.now l.reader l.invariant.gone going.0 (subst (λ ts. converted of_json (value c.args.depth ts) ≡ None) going.1 c.in_err-pass_value.ensures.none)
+    on_err c.from_residual.result (gone_refused c.args.depth c.args.reader.now l.reader l.invariant.gone going.0 (subst (λ ts. converted of_json (value c.args.depth ts) ≡ None) going.1 c.in_err-pass_value.ensures.none))
 
 pub pass_members-returns-in_default-clause-none : goal.pass_members-returns-in_default-clause-none
 pass_members-returns-in_default-clause-none t c =
@@ -105,7 +106,7 @@ pass_members-returns-in_err-pass_value-clause-none t c =
     let k = c.in-Some.field-0.now in
     let behind = c.next_key.new.self in
     let named : read_key l.reader ≡ Some (Some k, behind) = grind arith in
-    known_refused c.args.depth c.args.reader.now l.reader behind k l.invariant.known named c.in_err-pass_value.ensures.none
+    on_err c.from_residual.result (known_refused c.args.depth c.args.reader.now l.reader behind k l.invariant.known named c.in_err-pass_value.ensures.none)
 
 pub pass_value-returns-in_default-clause-none : goal.pass_value-returns-in_default-clause-none
 pass_value-returns-in_default-clause-none t c =
@@ -147,3 +148,21 @@ pass_value-returns-else-depth-eq0-2-clause-none t c =
     let first : c.args.reader.now ≡ token_of c.in-Some.token ∷ c.next.new.self = grind arith in
     let opens = first ∙ ap (λ k. token_of k ∷ c.next.new.self) c.in-BeginObject.is in
     on_err_weaker c.pass_members.result (λ none. object_refused c.args.depth c.args.reader.now c.next.new.self (omega arith) opens none) c.pass_members.ensures.none
+
+pub pass_value-returns-in-EndObject-clause-none : goal.pass_value-returns-in-EndObject-clause-none
+pass_value-returns-in-EndObject-clause-none t c =
+    let first : c.args.reader.now ≡ token_of c.in-Some.token ∷ c.next.new.self = grind arith in
+    let is = first ∙ ap (λ k. token_of k ∷ c.next.new.self) c.in-EndObject.is in
+    end_object_refused c.args.depth c.args.reader.now c.next.new.self is
+
+pub pass_value-returns-in-EndArray-clause-none : goal.pass_value-returns-in-EndArray-clause-none
+pass_value-returns-in-EndArray-clause-none t c =
+    let first : c.args.reader.now ≡ token_of c.in-Some.token ∷ c.next.new.self = grind arith in
+    let is = first ∙ ap (λ k. token_of k ∷ c.next.new.self) c.in-EndArray.is in
+    end_array_refused c.args.depth c.args.reader.now c.next.new.self is
+
+pub pass_value-returns-in-Bad-clause-none : goal.pass_value-returns-in-Bad-clause-none
+pass_value-returns-in-Bad-clause-none t c =
+    let first : c.args.reader.now ≡ token_of c.in-Some.token ∷ c.next.new.self = grind arith in
+    let is = first ∙ ap (λ k. token_of k ∷ c.next.new.self) c.in-Bad.is in
+    bad_refused c.args.depth c.args.reader.now c.next.new.self is

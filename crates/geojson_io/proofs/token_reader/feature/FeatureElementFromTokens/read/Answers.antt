@@ -11,26 +11,26 @@ use Rattle.geojson_io.proofs.token_reader.feature.FeatureElementFromTokens.read.
 
 pub read_object-requires : goal.read_object-requires
 read_object-requires c =
-    let e = c.feature_parts.ensures in
+    let e = c.feature_parts-parts.ensures in
     parts_distinct _ _ _ e.geometry e.id e.properties
 
 pub feature_of_parts-requires : goal.feature_of_parts-requires
 feature_of_parts-requires c =
-    let p = c.feature_parts in
-    let found = c.in_ok-read_object.found in
-    let r = c.in_ok-read_object.ensures in
+    let p = c.feature_parts-parts in
+    let found = c.in_ok-kind.found in
+    let r = c.in_ok-kind.ensures in
     let known = parts_known c.args.self.now.position.grid p.result.first.part.part.position.grid _ _ _ found.0 found.1.0 found.1.1 r.0 p.ensures.geometry (λ i. (p.ensures.position i).grid) p.ensures.id p.ensures.properties r.2.1 in
     (r.0, known.1.0)
 
 pub returns-in-Read-Feature : goal.returns-in-Read-Feature
 returns-in-Read-Feature c =
-    let p = c.feature_parts in
-    let found = c.in_ok-read_object.found in
+    let p = c.feature_parts-parts in
+    let found = c.in_ok-kind.found in
     let g = c.args.self.now.position.grid in
-    let r = c.in_ok-read_object.ensures in
+    let r = c.in_ok-kind.ensures in
     let ms = r.0 in
     let obj = object_converts ms r.3 in
-    let kind : c.in_ok-read_object.kind ≡ Read root.Feature = grind arith in
+    let kind : c.in_ok-kind.kind ≡ Read root.Feature = grind arith in
     let typed = subst (λ l. KnowsType l ms) kind r.2.0 in
     let known = parts_known g p.result.first.part.part.position.grid _ _ _ found.0 found.1.0 found.1.1 ms p.ensures.geometry (λ i. (p.ensures.position i).grid) p.ensures.id p.ensures.properties r.2.1 in
     IfOk-weaker c.feature_of_parts.result _ _
