@@ -4,6 +4,7 @@ pub mod Sets
 pub mod Sound
 pub mod Collections
 pub mod Fitting
+pub mod Nesting
 pub mod TokenMembers
 pub mod TokenPositions
 pub mod TokenShapes

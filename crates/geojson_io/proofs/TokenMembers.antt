@@ -1,15 +1,21 @@
 -- What the members that were read mean, of a geometry, a feature and a root.
-use Rattle.std.proofs.Common.{◌≡◌, ℕ, List, [], ◌∷◌, Option, Some, None, Result, Ok, Err, codes, Bool, true, false, bytes_eq, subst, map, Vec, Global, refl, sym, ap, ◌∙◌}
+use Rattle.std.proofs.Common.{◌≡◌, ℕ, List, [], ◌∷◌, Option, Some, None, MatchOption, Result, Ok, Err, codes, Bool, true, false, bytes_eq, option_and_then, subst, map, Vec, Global, refl, sym, ap, ◌∙◌}
 use Rattle.std.specs.List.{AllZip}
+use Rattle.std.specs.Str.{IsUtf8}
 use Rattle.std.specs.Prelude.{unwrap_or, if◌then◌else◌}
 use Rattle.json.specs.Json as json
-use Rattle.json_parts.specs.Members.{lookup_of}
+use Rattle.json_parts.specs.Arrays.{ArrayMeans}
+use Rattle.json_parts.specs.Members as tree
+use Rattle.json_parts.specs.Members.{are_distinct, lookup_of}
+use Rattle.json_parts.specs.Whole.{MatchTextRead, value_of}
+use Rattle.json_parts.specs.declared.text.TextRead.{TextRead}
+use Rattle.json_parts.specs.declared.text.TextRead.TheVariants as text_read
 use Rattle.json_parts.specs.declared.lookup.Lookup.{Lookup}
 use Rattle.json_parts.specs.declared.lookup.Lookup.TheVariants.{Read}
 use Rattle.json_parts.specs.declared.nested.Nested.{Nested}
 use Rattle.serde_json.specs.Data.{Data, Members, object, string, no_members}
 use Rattle.serde_json.specs.Find.{get}
-use Rattle.serde_json.specs.Read.{of_json, of_members}
+use Rattle.serde_json.specs.Read.{max_depth, of_json, of_members}
 use Rattle.faults.specs.declared.fault.FaultKind.{FaultKind}
 use Rattle.faults.specs.declared.fault.FaultKind.TheVariants.{UnknownType}
 use Rattle.grid.specs.Place.{Transform}
@@ -19,12 +25,13 @@ use Rattle.reading.specs.Info.{IsIdOf, id_faults, properties_faults, properties_
 use Rattle.reading.specs.Parts.{named, type_text, unless_null, list_faults, elements}
 use Rattle.reading.specs.Plain.{Plain, plain, plain_form, plain_id}
 use Rattle.reading.specs.Text.{document}
-use Rattle.reading.specs.TokenParts.Members as data
+use Rattle.reading.specs.TokenParts.Members as values
 use Rattle.reading.specs.TokenParts.Members.{KnowsMember}
 use Rattle.reading.specs.Types.{geometry_named, geometry_type}
 use Rattle.reading.specs.declared.geometry.GeometryType.{GeometryType}
 use Rattle.reading.proofs.Conversions.{Each, array_converts, known_converts, member_converts, object_of}
 use Rattle.reading.proofs.Lists.{zip_map}
+use Rattle.reading.proofs.Texts.{document_is, document_none}
 use Rattle.reading.proofs.TokenPartsLemmas.Members.{member_faultless, id_means}
 use Rattle.shapes.specs.Ids.{HasI64}
 use Rattle.shapes.specs.Parts.{properties_text}
@@ -36,7 +43,7 @@ use Rattle.shapes.specs.declared.shape.Id.{Id}
 use Rattle.shapes.specs.declared.shape.Id.TheVariants as id
 use Rattle.geojson_io.specs.Features.{element_of_features_faults, feature_members, feature_named, feature_of, features_by, features_of, features_of_text, faults_of_text, geojson_faults, root_faults, root_geometry, root_named, root_type}
 use Rattle.geojson_io.specs.Geometries.{geometry_faults, geometry_form, typed_geometry_faults, typed_form}
-use Rattle.geojson_io.specs.TokenCoordinates.{CoordinatesMean, IsShapeOf, nested_faults}
+use Rattle.geojson_io.specs.TokenCoordinates.{AreCoordinates, CoordinatesMean, IsShapeOf, nested_faults}
 use Rattle.geojson_io.specs.TokenMembers.{KnowsCoordinates, KnowsFeatures, KnowsId, KnowsParts, KnowsProps, KnowsRoot, KnowsShape, KnowsType}
 use Rattle.geojson_io.specs.declared.parts.root.Root.{Root}
 use Rattle.geojson_io.specs.declared.parts.root.Root.TheVariants as root
@@ -113,7 +120,7 @@ abbrev IsShape : Transform → Data → Shape → Type 0
 IsShape g d s = plain_form s ≡ geometry_form g d
 
 abbrev pub KnowsFeature : Transform → Option Shape → Option Id → Option Props → Members → Type 0
-KnowsFeature g s i p ds = KnowsMember (codes "geometry") (unless_null (geometry_faults g)) (IsShape g) s ds × data.KnowsId i ds × data.KnowsProps p ds
+KnowsFeature g s i p ds = KnowsMember (codes "geometry") (unless_null (geometry_faults g)) (IsShape g) s ds × values.KnowsId i ds × values.KnowsProps p ds
 
 pub parts_convert : (g : Transform) (s : Option Shape) (i : Option Id) (p : Option Props) (ms : json.Members) (ds : Members) → of_members ms no_members ≡ Some ds
     → KnowsShape g (lookup_of s) ms → KnowsId (lookup_of i) ms → KnowsProps (lookup_of p) ms → KnowsFeature g s i p ds
@@ -175,7 +182,54 @@ one_read g r fs x ms ds is typed none by means = let t = type_converts r ms ds i
 pub one_plain : (f : Feature) (fs : List Feature) (x : Plain) → plain f ≡ x → fs ≡ f ∷ [] → map plain fs ≡ x ∷ []
 one_plain f fs x means only = ap (map plain) only ∙ ap (λ y. y ∷ []) means
 
+-- ---- what is known by the names of members
+
+-- of a feature
+pub parts_known : (g h : Transform) (a b c : List ℕ) (s : Lookup Shape) (i : Lookup Id) (p : Lookup Props) (ms : json.Members) → a ≡ codes "geometry" → h ≡ g → b ≡ codes "id" → c ≡ codes "properties"
+    → tree.KnowsMember a (IsConverted (unless_null (geometry_faults h)) (IsShape h)) s ms × (tree.KnowsMember b (IsConverted id_faults IsIdOf) i ms × tree.KnowsMember c (IsConverted properties_faults (λ d x. properties_text x ≡ properties_of d)) p ms) → KnowsParts g (s, (i, p)) ms
+parts_known g h a b c s i p ms ea eh eb ec known = (
+  subst (λ t. KnowsShape t s ms) eh (subst (λ n. tree.KnowsMember n (IsConverted (unless_null (geometry_faults h)) (IsShape h)) s ms) ea known.0),
+  (subst (λ n. tree.KnowsMember n (IsConverted id_faults IsIdOf) i ms) eb known.1.0, subst (λ n. tree.KnowsMember n (IsConverted properties_faults (λ d x. properties_text x ≡ properties_of d)) p ms) ec known.1.1),
+)
+
+pub parts_distinct : (a b c : List ℕ) → a ≡ codes "geometry" → b ≡ codes "id" → c ≡ codes "properties" → are_distinct (codes "type" ∷ a ∷ b ∷ c ∷ []) ≡ true
+parts_distinct a b c ea eb ec = rw (ea, eb, ec) refl
+
+pub coordinates_distinct : (a : List ℕ) → a ≡ codes "coordinates" → are_distinct (codes "type" ∷ a ∷ []) ≡ true
+coordinates_distinct a ea = rw ea refl
+
+pub coordinates_known : (g h : Transform) (a : List ℕ) (n : Lookup (Nested Pos)) (ms : json.Members) → a ≡ codes "coordinates" → h ≡ g → tree.KnowsMember a (AreCoordinates h) n ms → KnowsCoordinates g n ms
+coordinates_known g h a n ms ea eh known = subst (λ t. KnowsCoordinates t n ms) eh (subst (λ m. tree.KnowsMember m (AreCoordinates h) n ms) ea known)
+
+abbrev pub AreElements : Transform → json.Json → List Feature → Type 0
+AreElements g j fs = ArrayMeans (λ k f (a b : Unit {0}). IsConverted (element_of_features_faults g) (λ d x. plain x ≡ feature_of g d) k f) j fs tt tt
+
+pub features_known : (g h : Transform) (a : List ℕ) (fs : Lookup (List Feature)) (ms : json.Members) → a ≡ codes "features" → h ≡ g → tree.KnowsMember a (AreElements h) fs ms → KnowsFeatures g fs ms
+features_known g h a fs ms ea eh known = subst (λ t. KnowsFeatures t fs ms) eh (subst (λ m. tree.KnowsMember m (AreElements h) fs ms) ea known)
+
+pub root_distinct : (a b c d e : List ℕ) → a ≡ codes "coordinates" → b ≡ codes "features" → c ≡ codes "geometry" → d ≡ codes "id" → e ≡ codes "properties" → are_distinct (codes "type" ∷ a ∷ b ∷ c ∷ d ∷ e ∷ []) ≡ true
+root_distinct a b c d e ea eb ec ed ee = rw (ea, eb, ec, ed, ee) refl
+
 -- ---- the text
+
+pub when_some : {A : Type 0} (P : Type 0) (Q : A → Type 0) (o : Option A) (x : A) → o ≡ Some x → MatchOption o P Q → Q x
+when_some P Q o x is h = subst (λ r. MatchOption r P Q) is h
+
+pub when_none : {A : Type 0} (P : Type 0) (Q : A → Type 0) (o : Option A) → o ≡ None → MatchOption o P Q → P
+when_none P Q o is h = subst (λ r. MatchOption r P Q) is h
+
+pub when_read : {X : Type 0} (P : Type 0) (Q : X → Type 0) (r : TextRead X) (x : X) → r ≡ text_read.Read x → MatchTextRead r P Q → Q x
+when_read P Q r x is h = subst (λ s. MatchTextRead s P Q) is h
+
+pub when_not_json : {X : Type 0} (P : Type 0) (Q : X → Type 0) (r : TextRead X) (at : ℕ) → r ≡ text_read.NotJson at → MatchTextRead r P Q → P
+when_not_json P Q r at is h = subst (λ s. MatchTextRead s P Q) is h
+
+-- the value of a text that is UTF-8, by the tree that it is
+pub text_is : (text : List ℕ) (j : json.Json) (d : Data) → IsUtf8 text → value_of max_depth text ≡ Some j → of_json j ≡ Some d → document text ≡ Some d
+text_is text j d utf8 e is = document_is text d utf8 (ap (option_and_then of_json) e ∙ is)
+
+pub text_is_none : (text : List ℕ) → value_of max_depth text ≡ None → document text ≡ None
+text_is_none text e = document_none text (λ _. ap (option_and_then of_json) e)
 
 pub text_faultless : (g : Transform) (bytes : List ℕ) (d : Data) → document bytes ≡ Some d → geojson_faults g d ≡ [] → faults_of_text g bytes ≡ []
 text_faultless g bytes d is none = rw is none

@@ -56,9 +56,9 @@ fn read_text(alloc: Global, bytes: &[u8], grid: &Grid) -> Result<Vec<Feature>, F
 {
     match token_reader::read_features(alloc, bytes, grid) {
         Ok(TextRead::Read(features)) => Ok(features),
-        Ok(_) => Err(Fault::here(alloc, FaultKind::NotJson)),
+        Ok(TextRead::NotJson(_)) => Err(Fault::here(alloc, FaultKind::NotJson)),
         Err(Stop::OutOfMemory) => Err(Fault::here(alloc, FaultKind::OutOfMemory)),
-        Err(Stop::Unread) => read_as_value(alloc, bytes, grid),
+        _ => read_as_value(alloc, bytes, grid),
     }
 }
 

@@ -16,17 +16,19 @@ mod shape;
 
 use crate::parts::position::Position;
 use crate::parts::root::Root;
-use crate::token_reader::root::{RootMembers, features_of_root, root_members};
+use crate::token_reader::feature::feature_parts;
+use crate::token_reader::geometry::coordinates_member;
+use crate::token_reader::root::{RootMembers, features_member, features_of_root};
 use grid::transform::Grid;
 use json::Scratch;
+use json_parts::member::Both;
 use json_parts::stop::Stop;
+pub use json_parts::text::TextRead;
 use json_parts::text::read_root;
 use reading::converted::SerdeJson;
 use reading::tokens::end::{end_of_json, last_place};
 use shapes::feature::Feature;
 use std::alloc::Global;
-
-pub use json_parts::text::TextRead;
 
 // How deep values may nest in `serde_json`.
 const MAX_DEPTH: usize = 127;
@@ -36,8 +38,21 @@ fn read_str(alloc: Global, text: &str, grid: &Grid) -> Result<TextRead<Vec<Featu
     ensures { IfOk result (IsTextRead grid.now text.now) }
 {
     let mut scratch = Scratch::new(alloc);
-    let members = root_members(&Position { grid: *grid });
-    match read_root::<SerdeJson, Root, RootMembers>(alloc, &members, text, &mut scratch, MAX_DEPTH)? {
+    let position = Position { grid: *grid };
+    let members = Both {
+        first: coordinates_member(&position),
+        second: Both {
+            first: features_member(&position),
+            second: feature_parts(&position),
+        },
+    };
+    match read_root::<SerdeJson, Root, RootMembers>(
+        alloc,
+        &members,
+        text,
+        &mut scratch,
+        MAX_DEPTH,
+    )? {
         TextRead::Read((kind, found)) => Ok(TextRead::Read(features_of_root(alloc, kind, found)?)),
         TextRead::NotJson(at) => Ok(TextRead::NotJson(at)),
         TextRead::Over => Ok(TextRead::Over),

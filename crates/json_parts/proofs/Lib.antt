@@ -1,2 +1,4 @@
 pub mod Looping
 pub mod Naming
+pub mod Nesting
+pub mod Wholes

@@ -1,7 +1,7 @@
 -- Arrays, an item at a time, and objects, a member at a time.
 use Rattle.std.proofs.Common.{◌≡◌, ℕ, ◌-◌, ◌<◌, ◌≤◌, List, [], ◌∷◌, ◌++◌, length, Option, Some, None, refl, sym, ap, ◌∙◌, subst, arith, append-nil, append_assoc}
 use Rattle.json.specs.Token.{Token, begin_array, end_array, begin_object}
-use Rattle.json.specs.Json.{Json, array, object, null, string, number, Items, no_items, item, Members, no_members, member, items, members, value, parse_map, after_end_array, read_key}
+use Rattle.json.specs.Json.{Json, array, object, null, boolean, string, number, Items, no_items, item, Members, no_members, member, items, members, value, parse_map, after_end_array, read_key}
 use Rattle.json.proofs.Grammar.{left, value_is, value-begin_array, value-begin_object, closed_array, items_end, items_more, members_end, members_more, members_no_key, read_key-shorter, skip_value-shorter, left_some}
 use Rattle.json_parts.specs.Arrays.{ItemsMean, ArrayMeans}
 use Rattle.json_parts.specs.Reads.{Gives, GivesItems, GivesMembers, Reads, ReadsRest, then_member}
@@ -66,6 +66,21 @@ pub items_closed : (depth : ℕ) (old mid new : List Token) (js : Items) → Pas
 items_closed depth old mid new js p closed n enough =
     let q = p.left n enough in
     q.2 ∙ ap (parse_map (before_items js)) (items_end (value depth) q.0 mid new q.1 closed) ∙ ap (λ is. Some (is, new)) (before_none js)
+
+-- arrays mean more where their items do
+items_weaker : {X C : Type 0} (P Q : Json → X → C → C → Type 0) → ((j : Json) (x : X) (a b : C) → P j x a b → Q j x a b) → (js : Items) (xs : List X) (a b : C) → ItemsMean P js xs a b → ItemsMean Q js xs a b
+items_weaker P Q f no_items [] a b h = h
+items_weaker P Q f no_items (x ∷ xs) a b h = absurd h
+items_weaker P Q f (item j js) [] a b h = absurd h
+items_weaker P Q f (item j js) (x ∷ xs) a b h = (h.0, f j x a h.0 h.1, items_weaker P Q f js xs h.0 b h.2)
+
+pub array_weaker : {X C : Type 0} (P Q : Json → X → C → C → Type 0) → ((j : Json) (x : X) (a b : C) → P j x a b → Q j x a b) → (j : Json) (xs : List X) (a b : C) → ArrayMeans P j xs a b → ArrayMeans Q j xs a b
+array_weaker P Q f null xs a b h = absurd h
+array_weaker P Q f (boolean v) xs a b h = absurd h
+array_weaker P Q f (number s) xs a b h = absurd h
+array_weaker P Q f (string s) xs a b h = absurd h
+array_weaker P Q f (array js) xs a b h = items_weaker P Q f js xs a b h
+array_weaker P Q f (object ms) xs a b h = absurd h
 
 module _ {X C : Type 0} (P : Json → X → C → C → Type 0) where
   mean_push : (js : Items) (xs : List X) (j : Json) (x : X) (a b c : C) → ItemsMean P js xs a b → P j x b c → ItemsMean P (before_items js (item j no_items)) (xs ++ x ∷ []) a c

@@ -1,11 +1,13 @@
 -- What is known of an object's members, as more are read.
 use Rattle.std.proofs.Common.{◌≡◌, ℕ, List, [], ◌∷◌, ◌++◌, Bool, Some, true, false, bytes_eq, ◌||◌, ◌&&◌, not, refl, sym, ap, ◌∙◌, cond}
 use Rattle.std.proofs.lemmas.Slice.Eq.{bytes_eq-Decides}
+use Rattle.std.specs.Bool.{MatchBool}
+use Rattle.json.specs.Token.{Token}
 use Rattle.json.specs.Json.{Json, Members, no_members, member}
 use Rattle.json.specs.Find.{get_member}
-use Rattle.json_parts.specs.Members.{EachValue, KnowsMember, LookupMeans, are_distinct, is_among}
+use Rattle.json_parts.specs.Members.{EachValue, KnowsMember, LookupMeans, TakesMember, are_distinct, is_among}
 use Rattle.json_parts.specs.MemberLaws.{get_then, neither}
-use Rattle.json_parts.specs.Reads.{then_member}
+use Rattle.json_parts.specs.Reads.{Gives, then_member}
 use Rattle.json_parts.specs.declared.lookup.Lookup.{Lookup}
 use Rattle.json_parts.specs.declared.lookup.Lookup.TheVariants.{Missing, Skipped, Read}
 
@@ -78,11 +80,11 @@ distinct_apart name [] ys h among = absurd (cc)
 distinct_apart name (x ∷ xs) ys h among =
     let parts = both (not (is_among x (xs ++ ys))) (are_distinct (xs ++ ys)) h in
     let apart = neither (is_among x xs) (is_among x ys) (sym (among_split x xs ys) ∙ denied (is_among x (xs ++ ys)) parts.0) in
-    go (bytes_eq name x) refl parts.1 apart.1
+    go (bytes_eq name x) refl apart.1 (distinct_apart name xs ys parts.1)
   where
-    go : (b : Bool) → bytes_eq name x ≡ b → are_distinct (xs ++ ys) ≡ true → is_among x ys ≡ false → is_among name ys ≡ false
-    go true e rest apart = ap (λ n. is_among n ys) (same_name name x (sym e)) ∙ apart
-    go false e rest apart = distinct_apart name xs ys rest (sym (ap (λ b. b || is_among name xs) e) ∙ among)
+    go : (b : Bool) → bytes_eq name x ≡ b → is_among x ys ≡ false → (is_among name xs ≡ true → is_among name ys ≡ false) → is_among name ys ≡ false
+    go true e apart rest = ap (λ n. is_among n ys) (same_name name x (sym e)) ∙ apart
+    go false e apart rest = rest (sym (ap (λ b. b || is_among name xs) e) ∙ among)
 
 -- a name that is the one is none of the others
 pub apart_from : (name n : List ℕ) (ns : List (List ℕ)) → are_distinct (n ∷ ns) ≡ true → true ≡ bytes_eq name n → is_among name ns ≡ false
@@ -91,6 +93,36 @@ apart_from name n ns h same = ap (λ m. is_among m ns) (same_name name n same) �
 pub distinct_rest : (n : List ℕ) (ns : List (List ℕ)) → are_distinct (n ∷ ns) ≡ true → are_distinct ns ≡ true
 distinct_rest n ns h = (both (not (is_among n ns)) (are_distinct ns) h).1
 
--- a name that is one of those behind the first is not the first
-pub apart_of : (name n : List ℕ) (ns : List (List ℕ)) → false ≡ bytes_eq name n → is_among name (n ∷ []) ≡ false
-apart_of name n ns other = ap (λ b. b || false) (sym other)
+-- of one name
+pub among_one : (name n : List ℕ) → true ≡ bytes_eq name n → is_among name (n ∷ []) ≡ true
+among_one name n same = ap (λ b. b || false) (sym same)
+
+pub apart_of_one : (name n : List ℕ) → false ≡ bytes_eq name n → is_among name (n ∷ []) ≡ false
+apart_of_one name n other = ap (λ b. b || false) (sym other)
+
+-- ---- two readers
+
+pub when_true : (b : Bool) (A B : Type 0) → b ≡ true → MatchBool b A B → A
+when_true true A B e h = h
+when_true false A B e h = absurd (cc)
+
+pub when_false : (b : Bool) (A B : Type 0) → b ≡ false → MatchBool b A B → B
+when_false true A B e h = absurd (cc)
+when_false false A B e h = h
+
+-- the second takes what the first doesn't
+pub second_takes : {F G : Type 0} (takes : Json → Type 0) (depth : ℕ) (name : List ℕ) (xs ys : List (List ℕ)) (old mid new : List Token) (K : F → Members → Type 0) (L : G → Members → Type 0) (f k : F) (g l : G) (b : Bool)
+    → ((j : Json) (ms : Members) → K f ms → K f (then_member ms name j)) → is_among name xs ≡ false → mid ≡ old → k ≡ f
+    → MatchBool b ((is_among name ys ≡ true) × TakesMember takes depth name mid new (L g) (L l)) ((is_among name ys ≡ false) × (new ≡ mid) × (l ≡ g))
+    → MatchBool b ((is_among name (xs ++ ys) ≡ true) × TakesMember takes depth name old new (λ ms. K f ms × L g ms) (λ ms. K k ms × L l ms)) ((is_among name (xs ++ ys) ≡ false) × (new ≡ old) × ((k, l) ≡ (f, g)))
+second_takes takes depth name xs ys old mid new K L f k g l true kept none same keeps h =
+    let t = h.1 in (
+      among_any_second name xs ys h.0,
+      record {
+        from = t.from;
+        given = subst (λ ts. Gives depth ts t.from new) same t.given;
+        taken = t.taken;
+        step = λ ms both. (subst (λ x. K x (then_member ms name t.from)) (sym keeps) (kept t.from ms both.0), t.step ms both.1);
+      },
+    )
+second_takes takes depth name xs ys old mid new K L f k g l false kept none same keeps h = (among_neither name xs ys none h.0, h.1 ∙ same, λ i. (keeps i, h.2 i))

@@ -39,11 +39,11 @@ impl<'n, 't, S: Skip, T, P: ReadMember<'t, S, T>> ReadMembers<'t, S, T> for Memb
         reader: &mut Reader<'t>,
         depth: usize,
     ) -> Result<bool, Stop> {
-        if name != self.name {
-            return Ok(false);
+        if name == self.name {
+            *found = self.part.read_member(alloc, kind, reader, depth)?;
+            return Ok(true);
         }
-        *found = self.part.read_member(alloc, kind, reader, depth)?;
-        Ok(true)
+        Ok(false)
     }
 
     ghost kept = { λ m l name j ms other h. member_kept m.name.now (P.means m.part) l name j ms (not_named name m.name.now other) h };
@@ -57,8 +57,7 @@ pub struct Both<A, B> {
 }
 
 impl<'t, S: Skip, T, A: ReadMembers<'t, S, T>, B: ReadMembers<'t, S, T>> ReadMembers<'t, S, T>
-    for Both<A, B>
-{
+    for Both<A, B> {
     type Found = (A::Found, B::Found);
 
     ghost names = { λ m. A.names m.first ++ B.names m.second };
@@ -80,14 +79,18 @@ impl<'t, S: Skip, T, A: ReadMembers<'t, S, T>, B: ReadMembers<'t, S, T>> ReadMem
         reader: &mut Reader<'t>,
         depth: usize,
     ) -> Result<bool, Stop> {
-        if self.first.take(alloc, kind, &mut found.0, name, reader, depth)? {
+        if self
+            .first
+            .take(alloc, kind, &mut found.0, name, reader, depth)?
+        {
             return Ok(true);
         }
-        self.second.take(alloc, kind, &mut found.1, name, reader, depth)
+        self.second
+            .take(alloc, kind, &mut found.1, name, reader, depth)
     }
 
     ghost kept = { λ m found name j ms other h. (
-        A.kept m.first found.0 name j ms (among_first name (A.names m.first) (B.names m.second) other) h.0,
-        B.kept m.second found.1 name j ms (among_second name (A.names m.first) (B.names m.second) other) h.1,
+      A.kept m.first found.0 name j ms (among_first name (A.names m.first) (B.names m.second) other) h.0,
+      B.kept m.second found.1 name j ms (among_second name (A.names m.first) (B.names m.second) other) h.1,
     ) };
 }

@@ -80,7 +80,7 @@ pub object_converts : (ms : json.Members) → EachValue Converts ms → (ds : Me
 object_converts ms h = let all = each_converts ms no_members h in (all.0, all.1, ap (option_map object) all.1)
 
 module _ {A : Type 0} where
-  unwrapped : A → Option A → A
+  abbrev unwrapped : A → Option A → A
   unwrapped a None = a
   unwrapped a (Some b) = b
 

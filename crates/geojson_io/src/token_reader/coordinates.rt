@@ -1,8 +1,8 @@
 //! Coordinates by how deep their brackets nest, whatever the type beside them.
 ghost use Rattle.geojson_io.specs.TokenCoordinates.{AreCoordinates};
 
-use crate::parts::root::Root;
 use crate::parts::position::Position;
+use crate::parts::root::Root;
 use grid::pos::Pos;
 use json::Reader;
 use json_parts::lookup::Lookup;

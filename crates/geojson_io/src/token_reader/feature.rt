@@ -16,9 +16,9 @@ ghost use Rattle.shapes.specs.declared.props.Props.{Props as the_props};
 ghost use Rattle.std.specs.Prelude.{◌≡◌, [], Option, Some, codes, IfOk};
 ghost use Rattle.geojson_io.specs.declared.parts.root.Root.TheVariants as root;
 
-use crate::parts::root::Root;
 use crate::parts::feature::FeatureElement;
 use crate::parts::position::Position;
+use crate::parts::root::Root;
 use crate::token_reader::geometry::GeometryOrNull;
 use json::Reader;
 use json_parts::from_tokens::FromTokens;
@@ -39,8 +39,10 @@ use std::alloc::Global;
 pub type FeatureMember<P> = Member<'static, OfType<Root, P>>;
 
 /// The members of a feature other than its type.
-pub type FeatureParts =
-    Both<FeatureMember<GeometryOrNull>, Both<FeatureMember<ByValue<Ids>>, FeatureMember<ByValue<Properties>>>>;
+pub type FeatureParts = Both<
+    FeatureMember<GeometryOrNull>,
+    Both<FeatureMember<ByValue<Ids>>, FeatureMember<ByValue<Properties>>>,
+>;
 
 /// What was read of these.
 pub type PartsFound = (Lookup<Shape>, (Lookup<Id>, Lookup<Props>));
@@ -60,7 +62,10 @@ fn member_of<P>(name: &'static str, part: P) -> FeatureMember<P>
 
 /// The members of a feature other than its type.
 pub fn feature_parts(position: &Position) -> FeatureParts
-    ensures { (result.first.part.part.position ≡ position.now) }
+    ensures geometry { result.first.name.now ≡ codes "geometry" }
+    ensures position { result.first.part.part.position ≡ position.now }
+    ensures id { result.second.first.name.now ≡ codes "id" }
+    ensures properties { result.second.second.name.now ≡ codes "properties" }
 {
     Both {
         first: member_of(
@@ -110,7 +115,9 @@ impl<'t> FromTokens<'t> for FeatureElement {
         _count: &mut (),
     ) -> Result<Feature, Stop> {
         let parts = feature_parts(&self.position);
-        let (kind, found) = read_object::<SerdeJson, Root, FeatureParts>(alloc, &parts, reader, depth)?;
+        let (kind, found) = read_object::<SerdeJson, Root, FeatureParts>(
+            alloc, &parts, reader, depth,
+        )?;
         match kind {
             Lookup::Read(Root::Feature) => feature_of_parts(alloc, found),
             _ => Err(Stop::Unread),

@@ -10,8 +10,8 @@ ghost use Rattle.serde_json.specs.Data.{Data};
 ghost use Rattle.serde_json.specs.Read.{of_json};
 ghost use Rattle.std.specs.Prelude.{◌≡◌, [], Some, codes, IfOk};
 
-use crate::parts::root::Root;
 use crate::parts::position::Position;
+use crate::parts::root::Root;
 use crate::token_reader::coordinates::Coordinates;
 use crate::token_reader::shape::shape_of;
 use grid::pos::Pos;
@@ -75,7 +75,9 @@ impl<'t> FromTokens<'t> for GeometryOrNull {
         _count: &mut (),
     ) -> Result<Shape, Stop> {
         let member = coordinates_member(&self.position);
-        match read_object_or_null::<SerdeJson, Root, Member<'_, Coordinates>>(alloc, &member, reader, depth)? {
+        match read_object_or_null::<SerdeJson, Root, Member<'_, Coordinates>>(
+            alloc, &member, reader, depth,
+        )? {
             Some((kind, coordinates)) => shape_of_members(alloc, kind, coordinates),
             None => Ok(Shape::Null),
         }

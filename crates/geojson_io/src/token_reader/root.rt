@@ -1,20 +1,19 @@
 //! Roots: a collection of features, a feature or a geometry, whose members come in any order.
-ghost use Rattle.geojson_io.specs.Features.{bare, geojson_faults, features_of};
+ghost use Rattle.geojson_io.specs.Features.{bare, feature_members, feature_of, features_of, geojson_faults};
 ghost use Rattle.geojson_io.specs.Geometries.{typed_form, typed_geometry_faults};
-ghost use Rattle.geojson_io.specs.TokenMembers.{KnowsCoordinates, KnowsId, KnowsRoot, KnowsType};
+ghost use Rattle.geojson_io.specs.TokenMembers.{KnowsCoordinates, KnowsId, KnowsParts, KnowsRoot, KnowsType};
 ghost use Rattle.grid.specs.Place.{Transform};
 ghost use Rattle.json.specs.Json.{Members, object};
 ghost use Rattle.reading.specs.Plain.{plain};
 ghost use Rattle.serde_json.specs.Data.{Data};
 ghost use Rattle.serde_json.specs.Read.{of_json};
-ghost use Rattle.std.specs.Prelude.{◌≡◌, [], ◌∷◌, Some, map, IfOk};
+ghost use Rattle.std.specs.Prelude.{◌≡◌, [], ◌∷◌, Some, codes, map, IfOk};
 
 use crate::parts::feature::FeatureElement;
 use crate::parts::position::Position;
 use crate::parts::root::{Root, RootFeatures, bare_feature};
 use crate::token_reader::coordinates::Coordinates;
-use crate::token_reader::feature::{FeatureParts, PartsFound, feature_of_parts, feature_parts};
-use crate::token_reader::geometry::coordinates_member;
+use crate::token_reader::feature::{FeatureParts, PartsFound, feature_of_parts};
 use crate::token_reader::shape::shape_of;
 use grid::pos::Pos;
 use json_parts::list::{ListOf, single};
@@ -37,23 +36,19 @@ pub type RootMembers = Both<Member<'static, Coordinates>, Both<FeaturesMember, F
 /// What was read of these.
 pub type RootFound = (Lookup<Nested<Pos>>, (Lookup<Items<Feature>>, PartsFound));
 
-/// The members that any root has.
-pub fn root_members(position: &Position) -> RootMembers {
-    Both {
-        first: coordinates_member(position),
-        second: Both {
-            first: Member {
-                name: "features",
-                part: OfType {
-                    kind: Root::Collection,
-                    part: ListOf {
-                        of: FeatureElement {
-                            position: *position,
-                        },
-                    },
-                },
-            },
-            second: feature_parts(position),
+/// The member `features`.
+pub fn features_member(position: &Position) -> FeaturesMember
+    ensures name { result.name.now ≡ codes "features" }
+    ensures position { result.part.part.of.position ≡ position.now }
+{
+    let of = FeatureElement {
+        position: *position,
+    };
+    Member {
+        name: "features",
+        part: OfType {
+            kind: Root::Collection,
+            part: ListOf { of },
         },
     }
 }

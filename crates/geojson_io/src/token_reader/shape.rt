@@ -7,11 +7,11 @@ ghost use Rattle.std.specs.List.{AllZip};
 ghost use Rattle.std.specs.Prelude.{◌≡◌, [], IfOk, OnOk, ◌++◌, ◌∷◌};
 
 use grid::pos::Pos;
+use json_parts::nested::Nested;
+use json_parts::stop::Stop;
 use lines::items::Items;
 use lines::line::Line;
 use lines::ring::Ring;
-use json_parts::nested::Nested;
-use json_parts::stop::Stop;
 use lines::shape_fault::ShapeFault;
 use reading::geometry::GeometryType;
 use reading::outline::Outline;
@@ -74,7 +74,11 @@ fn shape_of_places(alloc: Global, kind: GeometryType, places: Items<Pos>) -> Res
     }
 }
 
-fn shape_of_lists(alloc: Global, kind: GeometryType, lists: Items<Items<Pos>>) -> Result<Shape, Stop>
+fn shape_of_lists(
+    alloc: Global,
+    kind: GeometryType,
+    lists: Items<Items<Pos>>,
+) -> Result<Shape, Stop>
     ensures { IfOk result (IsShapeOf kind (nested.Lists lists)) }
 {
     match kind {
@@ -112,9 +116,17 @@ fn shape_of_nothing(alloc: Global, kind: GeometryType) -> Result<Shape, Stop>
 {
     match kind {
         GeometryType::MultiPoint => shape_of_places(alloc, kind, Items::from_vec(Vec::new(alloc))),
-        GeometryType::MultiLineString => shape_of_lists(alloc, kind, Items::from_vec(Vec::new(alloc))),
+        GeometryType::MultiLineString => shape_of_lists(
+            alloc,
+            kind,
+            Items::from_vec(Vec::new(alloc)),
+        ),
         GeometryType::Polygon => shape_of_lists(alloc, kind, Items::from_vec(Vec::new(alloc))),
-        GeometryType::MultiPolygon => shape_of_groups(alloc, kind, Items::from_vec(Vec::new(alloc))),
+        GeometryType::MultiPolygon => shape_of_groups(
+            alloc,
+            kind,
+            Items::from_vec(Vec::new(alloc)),
+        ),
         _ => Err(Stop::Unread),
     }
 }

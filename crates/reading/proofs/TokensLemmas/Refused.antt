@@ -1,5 +1,5 @@
 -- The grammar's loops under the conversion to data, where they stop.
-use Rattle.std.proofs.Common.{◌≡◌, ℕ, zero, suc, ◌-◌, ◌<◌, List, [], ◌∷◌, length, Option, Some, None, option_map, option_and_then, is_some, false, refl, ap, ◌∙◌}
+use Rattle.std.proofs.Common.{◌≡◌, ℕ, zero, suc, ◌-◌, ◌<◌, List, [], ◌∷◌, length, Option, Some, None, option_map, option_and_then, is_some, true, false, MatchOption, refl, ap, ◌∙◌}
 use Rattle.json.specs.Token.{Token, begin_array, begin_object}
 use Rattle.json.specs.Json as json
 use Rattle.json.specs.Json.{Parse, parse_map, after_end_array, read_key, items_step, members_step, items, members, value, if_last}
@@ -7,7 +7,7 @@ use Rattle.json.specs.Lex.{tokens}
 use Rattle.json.proofs.Grammar.{members_no_key, value_is, value-begin_array, value-begin_object}
 use Rattle.serde_json.specs.Data.{Num, Data, array, object, Members, no_members}
 use Rattle.serde_json.specs.Read.{of_json, of_items, of_members, converted, max_depth, number_of, read}
-use Rattle.reading.proofs.TokensLemmas.Reading.{converted-array, converted-object}
+use Rattle.reading.proofs.TokensLemmas.Reading.{converted_some, converted-array, converted-object}
 use Rattle.reading.proofs.TokensLemmas.Lists.{Gone, before_items}
 use Rattle.reading.proofs.TokensLemmas.Objects.{AnyMembers, Known}
 
@@ -84,7 +84,7 @@ pub number_refused : (depth : ℕ) (old new : List Token) (s : List ℕ) → old
 number_refused depth old new s is large =
     ap (λ ts. converted of_json (value depth ts)) is ∙ ap (converted of_json) (value_is depth (Token.number s ∷ new)) ∙ gone (number_of s) large
   where
-    gone : (o : Option Num) → false ≡ is_some o → option_map (λ b. (b, new)) (option_map Data.number o) ≡ None
+    gone : (o : Option Num) → false ≡ is_some o → option_map {U = Data × List Token} (λ b. (b, new)) (option_map Data.number o) ≡ None
     gone None e = refl
     gone (Some m) e = absurd (cc)
 
@@ -117,3 +117,12 @@ whole_refused (Some (j, t ∷ r)) e = refl
 -- of which no value can be read
 pub text_refused : (text : List ℕ) → converted of_json (value max_depth (tokens text)) ≡ None → read text ≡ None
 text_refused text none = whole_refused (value max_depth (tokens text)) none
+
+-- or of which more is behind its first value
+pub text_goes_on : (text : List ℕ) (d : Data) (t : Token) (new rest : List Token) → converted of_json (value max_depth (tokens text)) ≡ Some (d, new) → new ≡ t ∷ rest → read text ≡ None
+text_goes_on text d t new rest given more = let j = converted_some of_json (value max_depth (tokens text)) d new given in ap whole (j.1 ∙ ap (λ ts. Some (j.0, ts)) more)
+
+-- what holds where there is a next token
+pub something_left : {A : Type 0} (o : Option A) (P : Type 0) (Q : A → Type 0) → true ≡ is_some o → MatchOption o P Q → (a : A) × Q a
+something_left None P Q some h = absurd (cc)
+something_left (Some a) P Q some h = (a, h)

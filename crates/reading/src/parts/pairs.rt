@@ -1,6 +1,7 @@
 //! Two parts: the elements of an array, or two of one value.
-ghost use Rattle.reading.specs.Parts.{IsPair, elements, pair_faults};
-ghost use Rattle.std.specs.Prelude.{◌≡◌, ◌++◌, [], IfOk};
+ghost use Rattle.reading.specs.Parts.{IsPair, elements, pair_faults, two_faults};
+ghost use Rattle.serde_json.specs.View.{view};
+ghost use Rattle.std.specs.Prelude.{◌≡◌, ◌++◌, [], map, IfOk};
 
 use crate::fault_lists::found::{Faults, Wanted, is_enough, join};
 use crate::fault_lists::judge::judge_pair;
@@ -8,6 +9,21 @@ use crate::parts::part::Part;
 use faults::OutOfMemory;
 use serde_json::Value;
 use std::alloc::Global;
+
+// What both of the values mean.
+fn make_two<P: Part, Q: Part>(
+    alloc: Global,
+    first: &P,
+    second: &Q,
+    values: &[Value],
+) -> Result<(P::Made, Q::Made), OutOfMemory>
+    requires { two_faults (P.faults first.now) (Q.faults second.now) (map view values.now) ≡ [] }
+    ensures { IfOk result (λ p. IsPair (P.means first.now) (Q.means second.now) (map view values.now) p.0 p.1) }
+{
+    let x = first.make(alloc, &values[0])?;
+    let y = second.make(alloc, &values[1])?;
+    Ok((x, y))
+}
 
 /// An array of exactly two elements.
 #[derive(Drop)]
@@ -28,12 +44,10 @@ impl<P: Part, Q: Part> Part for PairOf<P, Q> {
     }
 
     fn make(&self, alloc: Global, value: &Value) -> Result<(P::Made, Q::Made), OutOfMemory> {
-        let Some(values) = value.as_array() else {
-            unreachable!()
-        };
-        let first = self.first.make(alloc, &values[0])?;
-        let second = self.second.make(alloc, &values[1])?;
-        Ok((first, second))
+        match value.as_array() {
+            Some(values) => make_two(alloc, &self.first, &self.second, values),
+            None => unreachable!(),
+        }
     }
 }
 

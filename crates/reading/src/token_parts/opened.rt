@@ -9,9 +9,8 @@ ghost use Rattle.std.specs.Prelude.{◌≡◌, ◌∷◌, [], List, IfOk};
 
 use crate::tokens::from_tokens::{FromTokens, Stop};
 use json::Reader;
-use std::alloc::Global;
-
 pub use json_parts::token::number_or_array;
+use std::alloc::Global;
 
 /// What reads a part that begins with brackets and a number.
 pub trait FromOpened: FromTokens {

@@ -4,12 +4,12 @@ ghost use Rattle.reading.specs.Tokens.Reads.{Reads};
 ghost use Rattle.serde_json.specs.View.{view};
 ghost use Rattle.std.specs.Prelude.{◌≡◌, [], IfOk, IfSome};
 
-use crate::fault_lists::found::Wanted;
 use crate::info::{Ids, Properties};
-use crate::parts::part::Part;
+use crate::parts::part::{Part, read_value};
 use crate::tokens::from_tokens::Stop;
 use crate::tokens::value::make_value;
 use faults::OutOfMemory;
+use faults::fault::FaultKind;
 use json::Reader;
 use serde_json::Value;
 use shapes::props::{PropFault, Props};
@@ -25,13 +25,12 @@ pub trait TryPart: Part {
 
 impl TryPart for Ids {
     fn try_make(&self, alloc: Global, value: &Value) -> Result<Option<Id>, OutOfMemory> {
-        let found = self.judge(alloc, Wanted::First, value)?;
-        if !found.is_empty() {
-            return Ok(None);
-        }
-        match self.make(alloc, value) {
+        match read_value(alloc, self, value) {
             Ok(id) => Ok(Some(id)),
-            Err(OutOfMemory) => Err(OutOfMemory),
+            Err(fault) => match fault.kind {
+                FaultKind::OutOfMemory => Err(OutOfMemory),
+                _ => Ok(None),
+            },
         }
     }
 }

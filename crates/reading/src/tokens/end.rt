@@ -17,14 +17,27 @@ fn end_of_str(alloc: Global, text: &str) -> Result<Option<usize>, OutOfMemory>
 {
     let mut scratch = Scratch::new(alloc);
     let mut reader = Reader::new(text, &mut scratch)?;
-    if let Err(at) = pass_value(text.as_bytes(), &mut reader, MAX_DEPTH) {
-        return Ok(Some(at));
+    match pass_value(text.as_bytes(), &mut reader, MAX_DEPTH) {
+        Ok(()) => {
+            let at = mark_before(text.as_bytes(), reader.offset());
+            if reader.next().is_some() {
+                Ok(Some(at))
+            } else {
+                Ok(None)
+            }
+        }
+        Err(at) => Ok(Some(at)),
     }
-    let at = mark_before(text.as_bytes(), reader.offset());
-    if reader.next().is_some() {
-        return Ok(Some(at));
+}
+
+// The byte from which on a text is no JSON or not UTF-8, or none where it is both.
+fn end_of_bytes(alloc: Global, bytes: &[u8]) -> Result<Option<usize>, OutOfMemory>
+    ensures { IfOk result (λ o. is_some o ≡ not (is_some (document bytes.now))) }
+{
+    match simdutf8::compat::from_utf8(bytes) {
+        Ok(text) => end_of_str(alloc, text),
+        Err(error) => Ok(Some(error.valid_up_to())),
     }
-    Ok(None)
 }
 
 /// The byte from which on a text is no JSON that `serde_json` reads: where the first token begins that can't be there, or the last
@@ -36,11 +49,7 @@ pub fn end_of_json(alloc: Global, bytes: &[u8]) -> Result<Option<usize>, OutOfMe
     ensures is { IfOk result (λ o. is_some o ≡ not (is_some (document bytes.now))) }
     ensures within { IfOk result (λ o. IfSome o (λ at. at ≤ length bytes.now)) }
 {
-    let found = match simdutf8::compat::from_utf8(bytes) {
-        Ok(text) => end_of_str(alloc, text)?,
-        Err(error) => Some(error.valid_up_to()),
-    };
-    match found {
+    match end_of_bytes(alloc, bytes)? {
         Some(at) => Ok(Some(last_place(bytes, at))),
         None => Ok(None),
     }

@@ -5,9 +5,8 @@ ghost use Rattle.serde_json.specs.Data.{Data};
 ghost use Rattle.std.specs.Prelude.{◌<◌, length, List, IfOk, OnOk};
 
 use json::Reader;
-use std::alloc::Global;
-
 pub use json_parts::Stop;
+use std::alloc::Global;
 
 /// What reads one kind of part off the tokens.
 pub trait FromTokens {

@@ -40,15 +40,11 @@ pub fn pass_value<'a>(bytes: &[u8], reader: &mut Reader<'a>, depth: usize) -> Re
         Token::String(_) => Ok(()),
         Token::Bool(_) => Ok(()),
         Token::Null => Ok(()),
-        Token::Number(text) => {
-            if is_number(text) {
-                Ok(())
-            } else {
-                Err(at)
-            }
-        }
+        Token::Number(text) => { if is_number(text) { Ok(()) } else { Err(at) } }
         Token::Key(_) => Err(mark_before(bytes, reader.offset())),
-        Token::EndObject | Token::EndArray | Token::Bad => Err(at),
+        Token::EndObject => Err(at),
+        Token::EndArray => Err(at),
+        Token::Bad => Err(at),
         Token::BeginArray => {
             if depth == 0 {
                 return Err(at);
@@ -91,9 +87,9 @@ fn pass_members<'a>(bytes: &[u8], reader: &mut Reader<'a>, depth: usize) -> Resu
         let Ok(key) = reader.next_key() else {
             return Err(place_of_key(bytes, at, reader.offset()));
         };
-        if key.is_none() {
+        let Some(_) = key else {
             return Ok(());
-        }
+        };
         pass_value(bytes, reader, depth)?;
     }
 }

@@ -1,3 +1,6 @@
+use Rattle.std.proofs.Common.{map, sym, ap, ◌∙◌, subst}
+use Rattle.std.proofs.lemmas.Result.{IfOk-weaker}
+use Rattle.std.specs.List.{AllZip}
 use Rattle.serde_json.specs.View.{view}
 use Rattle.reading.specs.Parts.{each_faults}
 use Rattle.reading.proofs.Lists.{elements_are, within_sound}
@@ -8,5 +11,5 @@ make_each-requires g c = rw c.deref.ensures.value (within_sound (each_faults (g.
 
 pub returns-in-Some : goal.returns-in-Some
 returns-in-Some g c =
-    let parts = elements_are (view c.args.value.now) c.in-Some.items.now.items c.in-Some.ensures in
-    rw (parts, ← c.deref.ensures.value) c.make_each.ensures
+    let are = ap (map view) c.deref.ensures.value ∙ sym (elements_are (view c.args.value.now) c.in-Some.items.now.items c.in-Some.ensures) in
+    IfOk-weaker c.make_each.result _ _ (λ xs h. subst (λ ds. AllZip (g.P.Part.means c.args.self.now.of) ds xs) are h) c.make_each.ensures
