@@ -1,4 +1,3 @@
-pub mod Looping
 pub mod Placing
 pub mod Naming
 pub mod Meaning

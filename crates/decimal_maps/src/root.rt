@@ -37,6 +37,10 @@ pub type RootFound<'t> = (GeometryFound, (Lookup<Items<RawFeature>>, PartsFound<
 
 // The members that any root has.
 fn root_members<'r>(rules: &MapRules<'r>) -> RootMembers<'r> {
+    let each = MapRules {
+        grid: rules.grid,
+        attributes: rules.attributes,
+    };
     Both {
         first: geometry_members(&rules.grid),
         second: Both {
@@ -44,7 +48,7 @@ fn root_members<'r>(rules: &MapRules<'r>) -> RootMembers<'r> {
                 name: "features",
                 part: OfType {
                     kind: Kind::FeatureCollection,
-                    part: ListOf { of: *rules },
+                    part: ListOf { of: each },
                 },
             },
             second: feature_parts(&rules.grid),
