@@ -1,3 +1,4 @@
 pub mod Placing
 pub mod Naming
 pub mod Meaning
+pub mod Asking
