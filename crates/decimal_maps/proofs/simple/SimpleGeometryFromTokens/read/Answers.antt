@@ -1,10 +1,10 @@
-use Rattle.std.proofs.Common.{◌≡◌}
+use Rattle.std.proofs.Common.{◌≡◌, refl}
 use Rattle.json.specs.Json.{object}
 use Rattle.decimal_maps.proofs.Asking.{coordinates_distinct, coordinates_known}
 use Rattle.decimal_maps.proofs.simple.SimpleGeometryFromTokens.read.Goals as goal
 
 pub read_object-requires : goal.read_object-requires
-read_object-requires c = coordinates_distinct c.args.self.now.grid c.args.count.now c.coordinates_member-member.result c.coordinates_member-member.ensures
+read_object-requires c κs = ((refl, tt), coordinates_distinct c.args.self.now.grid c.args.count.now c.coordinates_member-member.result c.coordinates_member-member.ensures)
 
 pub returns : goal.returns
 returns c =
