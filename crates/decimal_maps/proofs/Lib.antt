@@ -1,4 +1,4 @@
-pub mod Looping
 pub mod Placing
 pub mod Naming
 pub mod Meaning
+pub mod Asking

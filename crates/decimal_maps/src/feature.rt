@@ -1,13 +1,13 @@
 //! Features, whose members come in any order.
 ghost use Rattle.attributes.specs.Attributes.{seen_member};
 ghost use Rattle.decimal_maps.specs.Features.{HaveAttributes, IsFeature};
-ghost use Rattle.decimal_maps.specs.Members.{IsValue, KnowsKind, KnowsParts};
+ghost use Rattle.decimal_maps.specs.Members.{AsksParts, IsValue, KnowsKind, KnowsParts};
 ghost use Rattle.decimal_maps.specs.declared.kind.Kind.TheVariants as kinds;
 ghost use Rattle.json.specs.Find.{get_member};
 ghost use Rattle.json.specs.Json.{Members, object};
 ghost use Rattle.json_parts.specs.Members.{KnowsMember};
 ghost use Rattle.json_parts.specs.declared.lookup.Lookup.TheVariants.{Read};
-ghost use Rattle.std.specs.Prelude.{codes, IfOk};
+ghost use Rattle.std.specs.Prelude.{◌≡◌, codes, IfOk};
 
 use crate::geometry::GeometryOrNull;
 use crate::kind::Kind;
@@ -38,14 +38,21 @@ pub struct RawFeature {
 pub type FeatureMember<P> = Member<'static, OfType<Kind, P>>;
 
 /// The members of a feature other than its type.
-pub type FeatureParts =
-    Both<FeatureMember<GeometryOrNull>, Both<FeatureMember<AnyValue>, FeatureMember<AnyValue>>>;
+pub type FeatureParts = Both<
+    FeatureMember<GeometryOrNull>,
+    Both<FeatureMember<AnyValue>, FeatureMember<AnyValue>>,
+>;
 
 /// What was read of these.
-pub type PartsFound<'t> = (Lookup<(RawGeometry, Tally)>, (Lookup<Value<'t>>, Lookup<Value<'t>>));
+pub type PartsFound<'t> = (
+    Lookup<(RawGeometry, Tally)>,
+    (Lookup<Value<'t>>, Lookup<Value<'t>>),
+);
 
 // A member of features.
-fn member_of<P>(name: &'static str, part: P) -> FeatureMember<P> {
+fn member_of<P>(name: &'static str, part: P) -> FeatureMember<P>
+    ensures { (result.name.now ≡ name.now) × (result.part.part ≡ part) }
+{
     Member {
         name,
         part: OfType {
@@ -56,7 +63,9 @@ fn member_of<P>(name: &'static str, part: P) -> FeatureMember<P> {
 }
 
 /// The members of a feature other than its type.
-pub fn feature_parts(grid: &DecimalGrid) -> FeatureParts {
+pub fn feature_parts(grid: &DecimalGrid) -> FeatureParts
+    ensures { AsksParts grid.now result }
+{
     Both {
         first: member_of("geometry", GeometryOrNull { grid: *grid }),
         second: Both {
@@ -129,7 +138,9 @@ impl<'t, 'r> FromTokens<'t> for MapRules<'r> {
         _count: &mut (),
     ) -> Result<RawFeature, Stop> {
         let parts = feature_parts(&self.grid);
-        let (kind, found) = read_object::<AnyJson, Kind, FeatureParts>(alloc, &parts, reader, depth)?;
+        let (kind, found) = read_object::<AnyJson, Kind, FeatureParts>(
+            alloc, &parts, reader, depth,
+        )?;
         match kind {
             Lookup::Read(Kind::Feature) => feature_of(alloc, self, found),
             _ => Err(Stop::Unread),

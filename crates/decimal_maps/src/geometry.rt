@@ -1,6 +1,6 @@
 //! Geometries of any type, whose members come in any order.
 ghost use Rattle.decimal_maps.specs.Geometries.{IsGeometry};
-ghost use Rattle.decimal_maps.specs.Members.{IsCountedGeometry, KnowsGeometry, KnowsKind};
+ghost use Rattle.decimal_maps.specs.Members.{AsksGeometry, IsCountedGeometry, KnowsGeometry, KnowsKind};
 ghost use Rattle.decimal_maps.specs.declared.rules.DecimalGrid.{DecimalGrid as the_grid};
 ghost use Rattle.decimal_maps.specs.Tally.{nothing_counted};
 ghost use Rattle.json.specs.Json.{Members, object};
@@ -34,10 +34,15 @@ pub type GeometriesMember = Member<'static, OfType<Kind, Counted<ListOf<SimpleGe
 pub type GeometryMembers = Both<Member<'static, Coordinates>, GeometriesMember>;
 
 /// What was read of these.
-pub type GeometryFound = (Lookup<(Nested<Pos>, Tally)>, Lookup<(Items<RawShape>, Tally)>);
+pub type GeometryFound = (
+    Lookup<(Nested<Pos>, Tally)>,
+    Lookup<(Items<RawShape>, Tally)>,
+);
 
 /// The members of a geometry of any type other than the type.
-pub fn geometry_members(grid: &DecimalGrid) -> GeometryMembers {
+pub fn geometry_members(grid: &DecimalGrid) -> GeometryMembers
+    ensures { AsksGeometry grid.now result }
+{
     let counted = Tally::new();
     Both {
         first: coordinates_member(grid, counted),
@@ -94,7 +99,9 @@ impl<'t> FromTokens<'t> for GeometryOrNull {
         _count: &mut (),
     ) -> Result<(RawGeometry, Tally), Stop> {
         let members = geometry_members(&self.grid);
-        match read_object_or_null::<AnyJson, Kind, GeometryMembers>(alloc, &members, reader, depth)? {
+        match read_object_or_null::<AnyJson, Kind, GeometryMembers>(
+            alloc, &members, reader, depth,
+        )? {
             Some((kind, found)) => geometry_of(alloc, kind, found),
             None => Ok((RawGeometry::One(RawShape::Null), Tally::new())),
         }

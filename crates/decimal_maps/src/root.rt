@@ -1,13 +1,15 @@
 //! Roots: a collection of features, a feature or a geometry, whose members come in any order.
 ghost use Rattle.decimal_maps.specs.Features.{IsBareGeometry, IsFeature};
-ghost use Rattle.decimal_maps.specs.Members.{KnowsGeometry, KnowsKind, KnowsParts, KnowsRoot};
+ghost use Rattle.decimal_maps.specs.Members.{AsksRoot, KnowsGeometry, KnowsKind, KnowsParts, KnowsRoot};
 ghost use Rattle.decimal_maps.specs.Roots.{IsMap};
 ghost use Rattle.decimal_maps.specs.declared.kind.Kind.TheVariants as kinds;
 ghost use Rattle.json.specs.Json.{Json, Members, document, object};
 ghost use Rattle.json_parts.specs.declared.lookup.Lookup.TheVariants.{Read};
 ghost use Rattle.std.specs.Prelude.{◌≡◌, Some, IfOk};
 
-use crate::feature::{FeatureParts, PartsFound, RawFeature, attributes_of, feature_of, feature_parts};
+use crate::feature::{
+    FeatureParts, PartsFound, RawFeature, attributes_of, feature_of, feature_parts,
+};
 use crate::geometry::{GeometryFound, GeometryMembers, geometry_members, geometry_of};
 use crate::kind::Kind;
 use crate::rules::MapRules;
@@ -36,7 +38,13 @@ pub type RootMembers<'r> = Both<GeometryMembers, Both<FeaturesMember<'r>, Featur
 pub type RootFound<'t> = (GeometryFound, (Lookup<Items<RawFeature>>, PartsFound<'t>));
 
 // The members that any root has.
-fn root_members<'r>(rules: &MapRules<'r>) -> RootMembers<'r> {
+fn root_members<'r>(rules: &MapRules<'r>) -> RootMembers<'r>
+    ensures { AsksRoot rules.now result }
+{
+    let each = MapRules {
+        grid: rules.grid,
+        attributes: rules.attributes,
+    };
     Both {
         first: geometry_members(&rules.grid),
         second: Both {
@@ -44,7 +52,7 @@ fn root_members<'r>(rules: &MapRules<'r>) -> RootMembers<'r> {
                 name: "features",
                 part: OfType {
                     kind: Kind::FeatureCollection,
-                    part: ListOf { of: *rules },
+                    part: ListOf { of: each },
                 },
             },
             second: feature_parts(&rules.grid),
@@ -123,7 +131,13 @@ pub fn read_map(alloc: Global, rules: &MapRules<'_>, text: &str) -> Result<Vec<R
 {
     let mut scratch = Scratch::new(alloc);
     let members = root_members(rules);
-    match read_root::<AnyJson, Kind, RootMembers<'_>>(alloc, &members, text, &mut scratch, MAX_DEPTH)? {
+    match read_root::<AnyJson, Kind, RootMembers<'_>>(
+        alloc,
+        &members,
+        text,
+        &mut scratch,
+        MAX_DEPTH,
+    )? {
         TextRead::Read((kind, found)) => map_of(alloc, rules, kind, found),
         _ => Err(Stop::Unread),
     }

@@ -1,6 +1,6 @@
 //! Geometries that have coordinates, whose members come in any order.
 ghost use Rattle.decimal_maps.specs.Geometries.{IsSimple};
-ghost use Rattle.decimal_maps.specs.Members.{IsShapeOf, KnowsCoordinates, KnowsKind};
+ghost use Rattle.decimal_maps.specs.Members.{AsksCoordinates, IsShapeOf, KnowsCoordinates, KnowsKind};
 ghost use Rattle.decimal_maps.specs.declared.rules.DecimalGrid.{DecimalGrid as the_grid};
 ghost use Rattle.decimal_maps.specs.declared.tally.Tally.{Tally as the_tally};
 ghost use Rattle.json.specs.Json.{Members, object};
@@ -26,7 +26,9 @@ use reading::geometry::GeometryType;
 use std::alloc::Global;
 
 /// The member `coordinates`.
-pub fn coordinates_member(grid: &DecimalGrid, counted: Tally) -> Member<'static, Coordinates> {
+pub fn coordinates_member(grid: &DecimalGrid, counted: Tally) -> Member<'static, Coordinates>
+    ensures { AsksCoordinates grid.now counted result }
+{
     Member {
         name: "coordinates",
         part: Coordinates {
@@ -138,8 +140,9 @@ impl<'t> FromTokens<'t> for SimpleGeometry {
         count: &mut Tally,
     ) -> Result<RawShape, Stop> {
         let member = coordinates_member(&self.grid, *count);
-        let (kind, coordinates) =
-            read_object::<AnyJson, Kind, Member<'_, Coordinates>>(alloc, &member, reader, depth)?;
+        let (kind, coordinates) = read_object::<AnyJson, Kind, Member<'_, Coordinates>>(
+            alloc, &member, reader, depth,
+        )?;
         let (shape, tally) = simple_of(alloc, kind, coordinates)?;
         *count = tally;
         Ok(shape)

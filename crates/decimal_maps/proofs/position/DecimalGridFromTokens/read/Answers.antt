@@ -1,7 +1,7 @@
 use Rattle.std.proofs.Common.{◌∷◌, ◌-◌, ap, ◌∙◌, sym, subst}
 use Rattle.json.specs.Token.{Token, begin_array}
 use Rattle.decimal_maps.specs.Positions.{IsPosition}
-use Rattle.decimal_maps.specs.Reads.{Reads}
+use Rattle.json_parts.specs.Reads.{Reads}
 use Rattle.decimal_maps.proofs.Placing.{position_reads}
 use Rattle.decimal_maps.proofs.position.DecimalGridFromTokens.read.Goals as goal
 
