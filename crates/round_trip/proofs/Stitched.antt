@@ -14,7 +14,7 @@ use Rattle.reading.specs.Fault.{unless_faulty}
 use Rattle.reading.specs.Numbers.{whole_of}
 use Rattle.reading.specs.Parts.{list_faults}
 use Rattle.topo_text.specs.Arcs.{known, no_arc_faults, index_faults, used_arc, used_arcs, same_as, meets, stitched_onto, stitched, stitched_faults, stitching_faults, stitched_of, list_or_none}
-use Rattle.topo_text.proofs.Indexes.{number_of_index, along_index}
+use Rattle.topo_text.proofs.Indexes.{number_of_index}
 use Rattle.topo_io.proofs.StitchingLaws.{stitched_passed}
 use Rattle.topo_io.proofs.Stitched.{meets_last}
 use Rattle.round_trip.specs.Compact.Good.{Good}
@@ -27,11 +27,15 @@ use Rattle.round_trip.specs.Values.{index_data}
 
 -- ---- the arc of an index
 
+used_by_direction : (arcs : List (List Pos)) (b : Bool) (n : ℕ) → used_arc arcs (cond b (negsuc n) (pos n)) ≡ cond b (reverse (get_or arcs n [])) (get_or arcs n [])
+used_by_direction arcs true n = refl
+used_by_direction arcs false n = refl
+
 used_is : (arcs : List (List Pos)) (a : ArcRef) (c : List Pos) → along arcs a ≡ Some c → used_arc arcs (index_of a) ≡ c
 used_is arcs a c e =
     let (d, there, is) = along_get arcs a c e in
     let at : get_or arcs a.arc [] ≡ d = get_or_from_slice_get arcs a.arc d [] there in
-    sym (along_index arcs a (index_of a) refl) ∙ ap (λ w. cond a.reversed (reverse w) w) at ∙ sym is
+    used_by_direction arcs a.reversed a.arc ∙ ap (λ w. cond a.reversed (reverse w) w) at ∙ sym is
 
 I64-by_direction : (b : Bool) (n : ℕ) → n < 2 ^ 63 → IsI64 (cond b (negsuc n) (pos n))
 I64-by_direction true n h = h

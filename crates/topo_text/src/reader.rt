@@ -1,7 +1,6 @@
 //! The parts of a topology's text, by way of its JSON value.
 ghost use Rattle.serde_json.specs.View.{view};
 ghost use Rattle.std.specs.Prelude.{◌≡◌, [], Some, IfOk, IfErr, OnOk};
-ghost use Rattle.topo_text.specs.Limits.{limits_on};
 ghost use Rattle.topo_text.specs.Parts.{ArePartsOf, MeansParts, NotOrWant, loose_content, loose_transformed, loose_topology};
 ghost use Rattle.topo_text.specs.Roots.{transform_of};
 
@@ -28,20 +27,20 @@ use reading::part::{judge_type, read_list_member, read_member};
 use serde_json::Value;
 use std::alloc::Global;
 
-/// The parts of a topology on that grid.
-fn parts_on(alloc: Global, grid: &Grid, value: &Value) -> Result<TextParts, Fault>
-    ensures loose { OnOk result (loose_content (limits_on grid.now) (view value.now) ≡ []) }
+/// The parts of a topology on that grid, whose positions have these limits.
+fn parts_on(alloc: Global, grid: &Grid, limits: &Limits, value: &Value) -> Result<TextParts, Fault>
+    ensures loose { OnOk result (loose_content limits.now (view value.now) ≡ []) }
     ensures grid { IfOk result (λ p. p.grid ≡ grid.now) }
     ensures parts { IfOk result (λ p. ArePartsOf (view value.now) p.arcs.items p.layers.items) }
-    ensures err { IfErr result (NotOrWant (loose_content (limits_on grid.now) (view value.now) ≡ [])) }
+    ensures err { IfErr result (NotOrWant (loose_content limits.now (view value.now) ≡ [])) }
 {
-    let limits = Limits::of(grid);
-    let arcs = read_list_member(alloc, ArcOf { limits }, value, "arcs")?;
-    let count = arcs.len();
-    let of = ObjectsOf {
-        on: Ground { limits, count },
+    let of = ArcOf { limits: *limits };
+    let arcs = read_list_member(alloc, of, value, "arcs")?;
+    let on = Ground {
+        limits: *limits,
+        count: arcs.len(),
     };
-    let layers = read_member(alloc, &of, value, "objects")?;
+    let layers = read_member(alloc, &ObjectsOf { on }, value, "objects")?;
     Ok(TextParts {
         grid: *grid,
         arcs,
@@ -56,7 +55,7 @@ fn parts_with(alloc: Global, transform: &Value, value: &Value) -> Result<TextPar
     ensures err { IfErr result (NotOrWant (loose_transformed (view value.now) (Some (view transform.now)) ≡ [])) }
 {
     let grid = read_transform(alloc, transform)?;
-    parts_on(alloc, &grid, value)
+    parts_on(alloc, &grid, &Limits::of(&grid), value)
 }
 
 /// The parts of a topology that is this value, where all that is not known of it is what its lists of arcs stitch

@@ -1,7 +1,8 @@
 //! The layers of a topology: its member `objects` (TopoJSON, section 2.1.5).
 ghost use Rattle.serde_json.specs.Find.{as_object};
 ghost use Rattle.shapes.specs.Parts.{spelled_text};
-ghost use Rattle.std.specs.Prelude.{◌≡◌, map, string_bytes, IfOk};
+ghost use Rattle.std.specs.Prelude.{◌≡◌, ℕ, List, map, string_bytes, IfOk};
+ghost use Rattle.topo.specs.declared.geom.Geom.{Geom};
 ghost use Rattle.topo_text.specs.Arcs.{counted};
 ghost use Rattle.topo_text.specs.Parts.{AreLayersOf};
 ghost use Rattle.topo_text.specs.Roots.{objects_faults};
@@ -18,7 +19,7 @@ use topo::{Geom, Layer};
 
 /// The layers of these names and geometries.
 fn named_layers(alloc: Global, named: Vec<(String, Vec<Geom>)>) -> Result<Vec<Layer>, OutOfMemory>
-    ensures { IfOk result (λ ls. map (λ l. (spelled_text l.name, l.geometries)) ls.items ≡ map (λ m. (string_bytes m.0, m.1.items)) named.items) }
+    ensures { IfOk result (λ ls. map {B = List ℕ × List Geom} (λ l. (spelled_text l.name, l.geometries)) ls.items ≡ map (λ m. (string_bytes m.0, m.1.items)) named.items) }
 {
     let mut layers = Vec::with_capacity(alloc, named.len())?;
     for (name, geometries) in named {

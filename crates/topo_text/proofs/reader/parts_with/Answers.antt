@@ -1,4 +1,4 @@
-use Rattle.std.proofs.Common.{◌≡◌, [], Some, sym, ◌∙◌, subst, rules}
+use Rattle.std.proofs.Common.{◌≡◌, [], Some, sym, ◌∙◌, ap, subst, rules}
 use Rattle.serde_json.specs.View.{view}
 use Rattle.reading.proofs.Results.{ok_map, on_ok_map, err_map}
 use Rattle.topo_text.specs.Limits.{limits_on}
@@ -17,7 +17,7 @@ pub returns-clause-loose : goal.returns-clause-loose
 returns-clause-loose c =
     let v = view c.args.value.now in
     let t = view c.args.transform.now in
-    on_ok_map c.parts_on.result _ _ c.parts_on.ensures.loose (λ none. transformed_none v t c.in_ok-grid.ensures.ok (subst (λ g. loose_content (limits_on g) v ≡ []) c.in_ok-grid.ensures.made none))
+    on_ok_map c.parts_on.result _ _ c.parts_on.ensures.loose (λ none. transformed_none v t c.in_ok-grid.ensures.ok (subst (λ l. loose_content l v ≡ []) (c.of.ensures ∙ ap limits_on c.in_ok-grid.ensures.made) none))
 
 pub returns-clause-grid : goal.returns-clause-grid
 returns-clause-grid c = ok_map c.parts_on.result _ _ c.parts_on.ensures.grid (λ p is. is ∙ c.in_ok-grid.ensures.made)
@@ -26,4 +26,4 @@ pub returns-clause-err : goal.returns-clause-err
 returns-clause-err c =
     let v = view c.args.value.now in
     let t = view c.args.transform.now in
-    err_map c.parts_on.result _ _ c.parts_on.ensures.err (λ f h. whole_refused _ _ f h (λ all. subst (λ g. loose_content (limits_on g) v ≡ []) (sym c.in_ok-grid.ensures.made) (transformed_content v t c.in_ok-grid.ensures.ok all)))
+    err_map c.parts_on.result _ _ c.parts_on.ensures.err (λ f h. whole_refused _ _ f h (λ all. subst (λ l. loose_content l v ≡ []) (sym (c.of.ensures ∙ ap limits_on c.in_ok-grid.ensures.made)) (transformed_content v t c.in_ok-grid.ensures.ok all)))
