@@ -1,5 +1,5 @@
 -- Lemmas on what is reported of each error of a text.
-use Rattle.std.proofs.Common.{◌≡◌, ℕ, ◌<◌, ◌≤◌, ◌-◌, All, Err, IfOk, IfSome, List, [], ◌++◌, None, Ok, Option, Result, Some, ap, arith, get_or, if◌then◌else◌, inl, inr, is_some, length, map, refl, slice_get, subst, sym, take, true, vec_len, ◌∷◌, ◌∙◌}
+use Rattle.std.proofs.Common.{◌≡◌, ℕ, ◌<◌, ◌≤◌, ◌-◌, All, Err, IfOk, IfSome, List, [], ◌++◌, None, Ok, Option, Result, Some, ap, arith, get_or, if◌then◌else◌, inl, inr, is_some, length, map, refl, rules, slice_get, subst, sym, take, true, vec_len, ◌∷◌, ◌∙◌}
 use Rattle.std.specs.Borrow.{Bor}
 use Rattle.std.specs.Global.{Vec}
 use Rattle.std.specs.Option.{option_copied, option_to_list}
@@ -13,6 +13,8 @@ use Rattle.faults.specs.declared.fault.FaultKind.TheVariants.{NotJson}
 use Rattle.reading.specs.Text.{document}
 use Rattle.serde_json.specs.Data.{Data, null}
 use Rattle.serde_json.specs.Read.{read}
+use Rattle.serde_json.specs.View.{view}
+use Rattle.serde_json.specs.declared.value.Value.{Null, the_lemmas}
 use Rattle.fault_reports.specs.FaultPlaces.{AreUpTo}
 use Rattle.fault_reports.specs.FaultReports.{reported_fault}
 use Rattle.fault_reports.specs.LineColumns.{place_behind}
@@ -64,6 +66,12 @@ none_of (Some d) e = absurd cc
 pub read_as_none : (bytes : List ℕ) (text : Data) → document bytes ≡ None → text ≡ null → IsReadAs bytes text
 read_as_none bytes text none is = inr (λ utf8. sym (ap (λ b. if b then read bytes else None) (is_utf8-from_IsUtf8 bytes utf8)) ∙ none, is)
 
+pub null_seen : view Null ≡ null
+null_seen = search (rules, the_lemmas)
+
+pub read_null : (bytes : List ℕ) → true ≡ not (is_some (document bytes)) → IsReadAs bytes (view Null)
+read_null bytes is = read_as_none bytes (view Null) (none_of (document bytes) is) null_seen
+
 -- and its place is that of a byte of it
 pub byte_place : (bytes : List ℕ) (at : ℕ) (place : LineColumn) → (at ≤ length bytes → place ≡ place_behind (take at bytes)) → at ≤ length bytes → IsPlaceIn bytes place
 byte_place bytes at place is within = record { at = at; within = within; is = is within }
@@ -74,7 +82,7 @@ end_report bytes at text fault place (Ok x) is here says = λ within none. repor
 end_report bytes at text fault place (Err e) is here says = tt
 
 pub end_kind : {E : Type 0} (text : Data) (fault : Fault) (place : LineColumn) (r : Result FaultReport E) → fault.kind ≡ NotJson → IfOk r (λ x. ⊤ → IsReportOf GeoJson text fault place x) → IfOk r (λ x. x.fault.kind ≡ NotJson)
-end_kind text fault place (Ok x) is says = ap (λ f. f.kind) (says tt).fault_is ∙ is
+end_kind text fault place (Ok x) is says = ap (λ (f : Fault). f.kind) (says tt).fault_is ∙ is
 end_kind text fault place (Err e) is says = tt
 
 one_read : (o : Option Data) (a b : Data) → o ≡ Some a → o ≡ Some b → a ≡ b

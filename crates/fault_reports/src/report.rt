@@ -164,6 +164,7 @@ fn is_not_json(faults: &[Fault]) -> bool {
 
 /// The value of a text, null where `serde_json` doesn't read it, and the places of its errors. Where the error is that the text
 /// is no JSON, no value is made of it.
+#[tactic(auto, using(crate::proofs::ReportsLemmas::read_null))]
 fn value_and_places(
     alloc: Global,
     bytes: &[u8],

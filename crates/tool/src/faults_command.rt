@@ -4,7 +4,9 @@ use clap::ArgMatches;
 use command_line::files::{Files, read_all};
 use command_line::refusal::Refusal;
 use command_line::status::Status;
-use fault_reports::{FaultReport, FileReports, FilesArray, FilesText, Format, report_of_end, reports};
+use fault_reports::{
+    FaultReport, FileReports, FilesArray, FilesText, Format, report_of_end, reports,
+};
 use faults::OutOfMemory;
 use geojson_io::TextFaults;
 use grid::Grid;

@@ -59,11 +59,12 @@ impl<'a> Written for FeatureWords<'a> {
         let mut left = self.0;
         let mut number = self.1;
         while let Some((layer, others)) = left.split_first() {
-            if let Some(geometry) = layer.geometries().get(number) {
+            let geometries = layer.geometries();
+            if let Some(geometry) = geometries.get(number) {
                 let id = IdOrNumber(&geometry.id, number);
                 return ("layer ", layer.name(), id).write(sink);
             }
-            number = number.saturating_sub(layer.geometries().len());
+            number = number.saturating_sub(geometries.len());
             left = others;
         }
         Ok(())

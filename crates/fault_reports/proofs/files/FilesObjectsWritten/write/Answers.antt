@@ -21,7 +21,7 @@ first_of e b fs others f {rs} {n} first reports next =
 pub loop-file-preserved : goal.loop-file-preserved
 loop-file-preserved g c =
     let next = drop_item c.args.self.now.0.now c.loop-file.file-index c.file-item.result c.loop-file-test.true c.file-item.is in
-    left_step _ c.loop-file.invariant (first_of c.args.self.now.1 c.loop-file.is_behind _ _ _ next c.as_slice-reports.ensures.value c.has_some.ensures) c.in-Ok.ensures.whole
+    left_step _ c.loop-file.invariant (first_of c.args.self.now.1 c.loop-file.is_behind _ _ _ next c.as_slice-reports.ensures.value c.has_some-is_behind.ensures) c.in-Ok.ensures.whole
 
 pub returns-in-Err-clause-part : goal.returns-in-Err-clause-part
 returns-in-Err-clause-part g c =

@@ -1,3 +1,4 @@
+use Rattle.std.proofs.lemmas.List.{nil_from_length}
 use Rattle.sinks.proofs.Left.{left_part, left_step}
 use Rattle.outputs.proofs.CheckTextLemmas.{part_at_end, repeated_end, repeated_step, whole_at_end}
 use Rattle.outputs.proofs.check_text.ids.RepeatedLinesWritten.write.Goals as goal
@@ -16,8 +17,8 @@ returns-in-Err-clause-part g c =
 
 pub returns-clause-whole : goal.returns-clause-whole
 returns-clause-whole g c =
-    whole_at_end c.write.result c.loop-number.invariant (repeated_end c.args.self.now.0.now c.loop-number.before _ c.in-None.ensures.cases c.is_some.ensures) c.write.ensures.whole
+    whole_at_end c.write.result c.loop-number.invariant (repeated_end c.args.self.now.0.now c.loop-number.before _ (nil_from_length c.loop-number.left.now c.in_default.ensures.cases) c.is_some.ensures) c.write.ensures.whole
 
 pub returns-clause-part : goal.returns-clause-part
 returns-clause-part g c =
-    part_at_end c.write.result c.loop-number.invariant (repeated_end c.args.self.now.0.now c.loop-number.before _ c.in-None.ensures.cases c.is_some.ensures) c.write.ensures.part
+    part_at_end c.write.result c.loop-number.invariant (repeated_end c.args.self.now.0.now c.loop-number.before _ (nil_from_length c.loop-number.left.now c.in_default.ensures.cases) c.is_some.ensures) c.write.ensures.part
