@@ -1,5 +1,5 @@
 -- What is known of an object's members, as more are read.
-use Rattle.std.proofs.Common.{◌≡◌, ℕ, List, [], ◌∷◌, ◌++◌, Bool, Some, true, false, bytes_eq, ◌||◌, ◌&&◌, not, refl, sym, ap, ◌∙◌, cond}
+use Rattle.std.proofs.Common.{◌≡◌, ℕ, List, [], ◌∷◌, ◌++◌, Bool, Some, true, false, bytes_eq, ◌||◌, ◌&&◌, not, refl, sym, ap, ◌∙◌, subst, cond}
 use Rattle.std.proofs.lemmas.Slice.Eq.{bytes_eq-Decides}
 use Rattle.std.specs.Bool.{MatchBool}
 use Rattle.json.specs.Token.{Token}

@@ -11,7 +11,7 @@ ghost use Rattle.std.specs.Prelude.{◌≡◌, [], ◌∷◌, Some, codes, map, 
 
 use crate::parts::feature::FeatureElement;
 use crate::parts::position::Position;
-use crate::parts::root::{Root, RootFeatures, bare_feature};
+use crate::parts::root::{Root, bare_feature};
 use crate::token_reader::coordinates::Coordinates;
 use crate::token_reader::feature::{FeatureParts, PartsFound, feature_of_parts};
 use crate::token_reader::shape::shape_of;

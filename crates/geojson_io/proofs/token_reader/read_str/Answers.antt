@@ -14,7 +14,7 @@ pub features_of_root-requires : goal.features_of_root-requires
 features_of_root-requires c =
     let g = c.args.grid.now in
     let found = c.in-Read.found in
-    let r = when_read _ _ _ (c.in-Read.kind, found) c.in-Read.is c.in_ok-read_root.ensures in
+    let r = when_read _ _ _ (c.in-Read.kind, found) c.in-Read.is c.in_ok-kind.ensures in
     let at = c.coordinates_member in
     let fs = c.features_member in
     let p = c.feature_parts in
@@ -31,7 +31,7 @@ returns-in_ok-features_of_root-in-Read c =
     let g = c.args.grid.now in
     let text = c.args.text.now in
     let found = c.in-Read.found in
-    let r = when_read _ _ _ (c.in-Read.kind, found) c.in-Read.is c.in_ok-read_root.ensures in
+    let r = when_read _ _ _ (c.in-Read.kind, found) c.in-Read.is c.in_ok-kind.ensures in
     let at = c.coordinates_member in
     let fs = c.features_member in
     let p = c.feature_parts in
@@ -50,4 +50,4 @@ returns-in_ok-features_of_root-in-Read c =
     (text_faultless g text d is both.0, both.1 ∙ text_means g text d is)
 
 pub returns-in-NotJson : goal.returns-in-NotJson
-returns-in-NotJson c = text_is_none c.args.text.now (when_not_json _ _ _ c.in-NotJson.at c.in-NotJson.is c.in_ok-read_root.ensures)
+returns-in-NotJson c = text_is_none c.args.text.now (when_not_json _ _ _ c.in-NotJson.at c.in-NotJson.is c.in_ok-kind.ensures)

@@ -20,7 +20,7 @@ returns-then-eq g c =
       taken = g.met.S.Skip.strings r.0;
       step = λ ms h. (
         member_read (codes "type") (IsNamed g.T.TypeName.names) (Read c.in_ok-take_type.field-0) name (string r.0) ms same (r.0, r.1, refl),
-        g.met.M.ReadMembers.kept of c.args.found.now.1 name (string r.0) ms (apart_from name (codes "type") (g.M.ReadMembers.names of) c.requires same) h.1,
+        (g.met.M.ReadMembers c.lifetimes c.well_formed).kept of c.args.found.now.1 name (string r.0) ms (apart_from name (codes "type") (g.M.ReadMembers.names of) c.requires same) h.1,
       );
     }
 
@@ -51,6 +51,6 @@ returns g c =
       taken = s.2;
       step = λ ms h. (
         member_kept (codes "type") (IsNamed g.T.TypeName.names) found.0 name s.0 ms (sym c.if-eq.ensures) h.0,
-        subst (λ x. g.M.ReadMembers.knows of x (then_member ms name s.0)) (sym none.2) (g.met.M.ReadMembers.kept of found.1 name s.0 ms none.0 h.1),
+        subst (λ x. g.M.ReadMembers.knows of x (then_member ms name s.0)) (sym none.2) ((g.met.M.ReadMembers c.lifetimes c.well_formed).kept of found.1 name s.0 ms none.0 h.1),
       );
     }) c.skip.ensures

@@ -1,9 +1,16 @@
 use Rattle.std.proofs.Common.{◌≡◌, [], sym, ap, ◌∙◌, subst}
 use Rattle.reading.proofs.Conversions.{object_of}
+use Rattle.shapes.specs.Ids.{HasI64}
 use Rattle.geojson_io.specs.Features.{feature_members, feature_of}
 use Rattle.geojson_io.specs.TokenMembers.{KnowsId, KnowsProps, KnowsShape}
-use Rattle.geojson_io.proofs.TokenMembers.{feature_faultless, feature_means, parts_convert}
+use Rattle.geojson_io.proofs.TokenMembers.{feature_faultless, feature_means, id_fits, parts_convert}
 use Rattle.geojson_io.proofs.token_reader.feature.feature_of_parts.Goals as goal
+
+pub invariant_of-result : goal.invariant_of-result
+invariant_of-result c =
+    let i = c.in_ok-id.ensures in
+    let ms = c.requires.0 in
+    record { bits = subst HasI64 (sym i.2) (id_fits i.0 ms (subst (λ l. KnowsId l ms) i.1 c.requires.1)) }
 
 pub returns : goal.returns
 returns c g ms d is known =

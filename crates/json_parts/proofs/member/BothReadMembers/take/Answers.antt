@@ -19,7 +19,7 @@ returns-then-branch g c =
         from = t.from;
         given = t.given;
         taken = t.taken;
-        step = λ ms h. (t.step ms h.0, g.met.B.ReadMembers.kept of.second c.args.found.now.1 name t.from ms (distinct_apart name xs ys c.requires took.0) h.1);
+        step = λ ms h. (t.step ms h.0, (g.met.B.ReadMembers c.lifetimes c.well_formed).kept of.second c.args.found.now.1 name t.from ms (distinct_apart name xs ys c.requires took.0) h.1);
       },
     )
 
@@ -36,4 +36,4 @@ returns g c =
     let none = when_false _ _ _ c.if-branch.false c.in_ok-take.ensures in
     IfOk-weaker c.take-2.result _ _
     (λ b h. second_takes g.S.Skip.takes c.args.depth name xs ys c.args.reader.now c.take.new.reader c.take-2.new.reader (g.A.ReadMembers.knows of.first) (g.B.ReadMembers.knows of.second) found.0 c.take.new.found found.1 c.take-2.new.found b
-    (λ j ms k. g.met.A.ReadMembers.kept of.first found.0 name j ms none.0 k) none.0 none.1 none.2 h) c.take-2.ensures
+    (λ j ms k. (g.met.A.ReadMembers c.lifetimes c.well_formed).kept of.first found.0 name j ms none.0 k) none.0 none.1 none.2 h) c.take-2.ensures
