@@ -4,6 +4,7 @@ use Rattle.std.specs.List.{AllByRecursion}
 use Rattle.serde_json.specs.Data.{Data, Members, no_members, member}
 use Rattle.theory.specs.Lists.{Distinct}
 use Rattle.shapes.specs.Parts.{spelled_text}
+use Rattle.shapes.specs.declared.spelled.Spelled.{Spelled}
 use Rattle.reading.specs.Parts.{MeanMembers}
 use Rattle.topo.specs.Parts.{LayerParts}
 use Rattle.topo.specs.declared.geom.Geom.{Geom}
@@ -17,6 +18,12 @@ named_read m = (string_bytes m.0, m.1.items)
 -- those of a layer
 abbrev pub named_of : LayerParts → List ℕ × List Geom
 named_of l = (spelled_text l.name, l.geometries)
+
+-- a layer of a name and geometries that are read
+pub named_new : (name : Spelled) (m : String Global × Vec Geom Global) (t : List ℕ) (l : LayerParts) → l ≡ record { name = name; geometries = m.1.items } → spelled_text name ≡ t → t ≡ string_bytes m.0 → named_of l ≡ named_read m
+named_new name m t l is text bytes =
+    let same : named_of (record { name = name; geometries = m.1.items }) ≡ named_read m = λ i. ((text ∙ bytes) i, m.1.items) in
+    ap named_of is ∙ same
 
 abbrev plain_of : List ℕ × List Geom → List ℕ × List PlainGeom
 plain_of p = (p.0, map plain_geom p.1)

@@ -1,12 +1,12 @@
 use Rattle.std.proofs.Common.{sym, ◌∙◌}
 use Rattle.topo_text.proofs.Each.{one_made, all_made, none_left}
-use Rattle.topo_text.proofs.Objects.{named_of, named_read}
+use Rattle.topo_text.proofs.Objects.{named_of, named_read, named_new}
 use Rattle.topo_text.proofs.reader.objects.named_layers.Goals as goal
 
 pub loop-name-preserved : goal.loop-name-preserved
 loop-name-preserved c =
     let l = c.loop-name in
-    let same = λ i. ((c.in_ok-spelled.ensures ∙ c.as_str.ensures.value) i, c.in-Some.geometries.items) in
+    let same = named_new c.in_ok-spelled.spelled (c.in-Some.name, c.in-Some.geometries) _ c.new.result c.new.ensures c.in_ok-spelled.ensures c.as_str.ensures.value in
     one_made named_of named_read _ l.layers.items l.name-iterator.rest.items (c.in-Some.name, c.in-Some.geometries) c.next.new.self.rest.items c.new.result c.push.new.layers.items c.in-Some.ensures.steps.0 same c.in_ok-push.ensures l.invariant
 
 pub returns : goal.returns

@@ -1,4 +1,4 @@
-use Rattle.std.proofs.Common.{ap, ◌∙◌, subst}
+use Rattle.std.proofs.Common.{[], ap, ◌∙◌, subst}
 use Rattle.serde_json.specs.View.{view}
 use Rattle.reading.specs.Fault.{LeastOrWant, unless_faulty}
 use Rattle.reading.specs.Numbers.{whole_of}
